@@ -1,0 +1,9 @@
+use borrow.Author.Needs.{needs}
+use Rattle.damper.proofs.Drive.cleared.Statement.{statement}
+use Rattle.damper.proofs.Drive.cleared.Tie as tie
+
+returns : tie.Need-returns
+returns c = simp (c .fresh .ensures)
+
+pub cleared-spec : {M : Type 1} → statement M
+cleared-spec = tie.close (tie.spec (λ c κs. search needs) returns)

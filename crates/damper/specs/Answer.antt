@@ -1,0 +1,33 @@
+-- Document 01, 'What the drive program prints': an answer's number and values.
+use mathlib.Core.Bool.{Bool, true, false}
+use mathlib.Core.List.{List, [], _∷_}
+use Prim.Native.Nat.{ℕ}
+use Rattle.damper.specs.declared.Answer.{Answer}
+use Rattle.damper.specs.declared.Answer.the-variants.{No, Done, Par, At, Tick, Report}
+
+-- the number of the refusal, N of `no N`; 0 for an accepted event
+abbrev pub numberOf : Answer → ℕ
+numberOf (No n) = n
+numberOf Done = 0
+numberOf (Par v) = 0
+numberOf (At p c s) = 0
+numberOf (Tick p r m) = 0
+numberOf (Report p r m s) = 0
+
+-- the values of the printed line after its word, in order: `no N`, `ok`, `par V`, `at P C S`, `tick P R M -`, `tick P R M S`
+abbrev pub valuesOf : Answer → List ℕ
+valuesOf (No n) = n ∷ []
+valuesOf Done = []
+valuesOf (Par v) = v ∷ []
+valuesOf (At p c s) = p ∷ c ∷ s ∷ []
+valuesOf (Tick p r m) = p ∷ r ∷ m ∷ []
+valuesOf (Report p r m s) = p ∷ r ∷ m ∷ s ∷ []
+
+-- "a spontaneous report is any answer of the tick's form with a status"
+abbrev pub isReport : Answer → Bool
+isReport (No n) = false
+isReport Done = false
+isReport (Par v) = false
+isReport (At p c s) = false
+isReport (Tick p r m) = false
+isReport (Report p r m s) = true

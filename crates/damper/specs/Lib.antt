@@ -1,0 +1,7 @@
+-- The drive record of document 01 and what one event does to it.
+pub mod Record
+pub mod WellFormed
+pub mod Tick
+pub mod Answer
+pub mod Step
+pub mod Laws

@@ -1,0 +1,95 @@
+-- Document 01: what one event record does to a drive, and what it answers.
+use mathlib.Core.Bool.{Bool, true, false}
+use mathlib.Core.List.{List, [], _∷_}
+use Prim.Native.Nat.{ℕ}
+use lib.Dec.{eqb}
+use lib.ListN.{getD}
+use Rattle.numbers.specs.Numbers.{pick}
+use Rattle.table.specs.Table.{placeOf, damperMode, startSynchronization, rate, low, high}
+use Rattle.event.specs.declared.Event.{Event}
+use Rattle.event.specs.Event.{eventIn, valueOf}
+use Rattle.rules.specs.Motion.{toPosition, toPercent, runTicks}
+use Rattle.rules.specs.Rank.{running, forbidsRun}
+use Rattle.rules.specs.Refusal.{refusal}
+use Rattle.damper.specs.declared.Drive.{Drive}
+use Rattle.damper.specs.declared.Advanced.{Advanced}
+use Rattle.damper.specs.declared.Answer.{Answer}
+use Rattle.damper.specs.declared.Answer.the-variants.{No, Done, Par, At, Tick, Report}
+use Rattle.damper.specs.declared.Outcome.{Outcome}
+use Rattle.damper.specs.Record.{withRun, withParam, withSetpoint, withTool, withHand, withInterlocks, cleared}
+use Rattle.damper.specs.WellFormed.{wellFormed}
+use Rattle.damper.specs.Tick.{advance, due, reported, statusOf}
+
+abbrev pub outcome : Drive → Answer → Outcome
+outcome d x = record { drive = d; answer = x }
+
+-- an accepted event that is no tick and no read answers `ok`
+abbrev pub done : Drive → Outcome
+done d = outcome d Done
+
+-- step 4 of a tick that advanced, whether it is due being known: `tick P R M S`, position after, ruling rank during the move,
+-- motor, reported status or `-`
+unfoldable pub tickWith : Bool → Advanced → Outcome
+tickWith true a = outcome (reported (a .drive)) (Report (a .drive .position) (a .rank) (a .motor) (statusOf (a .drive)))
+tickWith false a = outcome (a .drive) (Tick (a .drive .position) (a .rank) (a .motor))
+
+-- kind 1
+unfoldable pub ticked : Drive → Outcome
+ticked d = let a = advance d in tickWith (due (a .drive)) a
+
+-- kind 3: "0 normal write, 1 override, 2 release"; "Kind 2 and command 0 store a bus setpoint with age 0, also under an
+-- override; only release ends the override."
+unfoldable pub commanded : Drive → ℕ → ℕ → Drive
+commanded d b c =
+    pick (eqb c 0) (withSetpoint d (toPosition b)) (withTool d (eqb c 1) (pick (eqb c 1) (toPosition b) 0))
+
+-- "Calibration sets a run of K ticks toward 0, anew if one is going."
+unfoldable pub calibrated : Drive → Drive
+calibrated d = withRun d 1 (runTicks (rate (d .params)))
+
+-- the run that StartSynchronization 1 or 2 starts: sync close toward 0, sync open toward 255
+abbrev pub startRun : ℕ → ℕ
+startRun s = pick (eqb s 1) 2 (pick (eqb s 2) 3 0)
+
+-- "StartSynchronization 1 or 2 then starts a run of K ticks toward 0 or 255."
+unfoldable pub restarted : Drive → Drive
+restarted d =
+    let r = startRun (startSynchronization (d .params)) in
+    withRun (cleared d) r (pick (running r) (runTicks (rate (d .params))) 0)
+
+-- what each accepted event does to the record and what it answers, kinds 1 to 11 in order
+unfoldable pub applied : Drive → Event → Outcome
+applied d e =
+    pick (eqb (e .kind) 1) (ticked d)
+    (pick (eqb (e .kind) 2) (done (withSetpoint d (e .a)))
+    (pick (eqb (e .kind) 3) (done (commanded d (e .b) (e .c)))
+    (pick (eqb (e .kind) 4) (done (withInterlocks d (d .fault) (e .a)))
+    (pick (eqb (e .kind) 5) (done (withHand d (eqb (e .a) 1) (pick (eqb (e .a) 1) (e .b) 0)))
+    (pick (eqb (e .kind) 6) (done (calibrated d))
+    (pick (eqb (e .kind) 7) (done (withInterlocks d (eqb (e .a) 1) (d .forcing)))
+    (pick (eqb (e .kind) 8) (done (withParam d (placeOf (e .a)) (valueOf e)))
+    (pick (eqb (e .kind) 9) (done (restarted d))
+    (pick (eqb (e .kind) 10) (outcome d (At (d .position) (toPercent (d .position)) (statusOf d)))
+    (outcome d (Par (getD (d .params) (placeOf (e .a)) 0))))))))))))
+
+-- the first of 1 to 13 that fits, 0 if none does; 1: "The drive record is not well formed."
+unfoldable pub refusalOf : Drive → List ℕ → ℕ
+refusalOf d s =
+    pick (wellFormed d)
+    (refusal s (damperMode (d .params)) (low (d .params)) (high (d .params)) (running (d .run)) (forbidsRun (d .fault) (d .forcing)))
+    1
+
+-- "The answer is the first that fits and the same drive record."
+unfoldable pub stepOf : Drive → List ℕ → Outcome
+stepOf d s =
+    pick (eqb (refusalOf d s) 0) (applied d (eventIn s)) (outcome d (No (refusalOf d s)))
+
+-- "each later one to the drive that the one before left, refused or not": the drive after a list of event records, and the
+-- answers to them
+unfoldable pub driveAfter : Drive → List (List ℕ) → Drive
+driveAfter d [] = d
+driveAfter d (s ∷ ss) = driveAfter (stepOf d s .drive) ss
+
+unfoldable pub answersTo : Drive → List (List ℕ) → List Answer
+answersTo d [] = []
+answersTo d (s ∷ ss) = let o = stepOf d s in o .answer ∷ answersTo (o .drive) ss

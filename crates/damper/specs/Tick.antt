@@ -1,0 +1,68 @@
+-- Document 01, 'One tick, in order': advance (steps 1 to 3), due and report (step 4).
+use mathlib.Core.Bool.{Bool, true, false, not, _&&_, _||_}
+use Prim.Native.Nat.{ℕ, _-_}
+use lib.Dec.{leb, eqb}
+use lib.ListN.{getD}
+use Rattle.numbers.specs.Numbers.{pick, next}
+use Rattle.table.specs.Table.{openCloseDirection, actPosCov, minRepTime, timeout, repPer, rate}
+use Rattle.rules.specs.Motion.{toward, motor}
+use Rattle.rules.specs.Rank.{busActive, activeByte, rulingRank, targets}
+use Rattle.rules.specs.Report.{status, changed}
+use Rattle.damper.specs.declared.Drive.{Drive}
+use Rattle.damper.specs.declared.Advanced.{Advanced}
+use Rattle.damper.specs.Record.{withCounts, withPosition, withRun, withReport}
+
+-- step 1: "Since rises by one, and so does age if there is a setpoint."
+unfoldable pub aged : Drive → Drive
+aged d = withCounts d (pick (d .bus) (next (d .age)) (d .age)) (next (d .since))
+
+-- whether the bus is active, taken from the record as it is
+abbrev pub busOn : Drive → Bool
+busOn d = busActive (d .bus) (d .age) (timeout (d .params))
+
+-- the active byte and the ruling rank of the record as it is
+abbrev pub activeIn : Drive → ℕ
+activeIn d = activeByte (d .fault) (d .forcing) (d .run) (d .hand) (d .tool) (busOn d)
+
+abbrev pub ruling : Drive → ℕ
+ruling d = rulingRank (activeIn d)
+
+-- the target at a rank
+unfoldable pub targetAt : Drive → ℕ → ℕ
+targetAt d rank =
+    getD (targets (d .position) (d .forcing) (d .run) (d .handpos) (d .toolpos) (d .bus) (d .setpoint) (d .params)) rank 0
+
+-- step 2, toward the target at a rank
+unfoldable pub moved : Drive → ℕ → Drive
+moved d rank = withPosition d (toward (d .position) (targetAt d rank) (rate (d .params)))
+
+-- step 3: "A run loses one tick and ends at 0."
+unfoldable pub ranDown : Drive → Drive
+ranDown d = withRun d (pick (leb (d .left) 1) 0 (d .run)) (d .left - 1)
+
+-- steps 1 to 3: the record after them, the "ruling rank during the move" and the motor
+unfoldable pub advance : Drive → Advanced
+advance d =
+    let a = aged d in
+    let r = ruling a in
+    let m = ranDown (moved a r) in
+    record { drive = m; rank = r; motor = motor (openCloseDirection (d .params)) (d .position) (m .position) }
+
+-- the status, "taken from the record as it is (in a tick, after step 3)"
+abbrev pub statusOf : Drive → ℕ
+statusOf d = status (d .fault) (d .hand) (d .tool) (d .run) (d .forcing) (busOn d)
+
+-- step 4, with the status after steps 1 to 3: "if since is at least MinRepTime and one of these holds: no report yet; 100 × the distance from the
+-- last reported position is at least 255 × ActPosCOV; status differs; since is at least RepPer"
+unfoldable pub dueWith : Drive → ℕ → Bool
+dueWith d s =
+    leb (minRepTime (d .params)) (d .since)
+    && (((not (d .reported) || changed (actPosCov (d .params)) (d .position) (d .lastpos)) || not (eqb s (d .laststatus)))
+    || leb (repPer (d .params)) (d .since))
+
+abbrev pub due : Drive → Bool
+due d = dueWith d (statusOf d)
+
+-- step 4: "A report goes out, and since becomes 0"
+abbrev pub reported : Drive → Drive
+reported d = withReport d (statusOf d)

@@ -1,0 +1,92 @@
+// The parts of a tick: advance (steps 1 to 3), due and, as `with_report`, the report of step 4.
+ghost use mathlib.Core.Path.{_≡_};
+ghost use Prim.Native.Nat.{_<_};
+ghost use Rattle.table.specs.Laws.{Ranges};
+ghost use Rattle.damper.specs.Tick.{aged, moved, ranDown, advance, statusOf, dueWith};
+use crate::Advanced;
+use crate::Drive;
+use numbers::next16;
+use numbers::pick8;
+use numbers::pick16;
+
+impl Drive {
+    // Step 1.
+    fn aged(self) -> Drive
+        ensures { λ r. ⌜ r ≡ aged self ⌝ }
+    {
+        self.with_counts(
+            pick16(self.bus, next16(self.age), self.age),
+            next16(self.since),
+        )
+    }
+
+    // Step 2.
+    fn moved(self, rank: u8) -> Drive
+        requires { ⌜ Ranges (self .params) ⌝ }
+        requires { ⌜ rank < 7 ⌝ }
+        ensures { λ r. ⌜ r ≡ moved self rank ⌝ }
+    {
+        self.with_position(rules::toward(
+            self.position,
+            self.target(rank),
+            self.params[table::RATE] as u8,
+        ))
+    }
+
+    // Step 3.
+    fn ran_down(self) -> Drive
+        ensures { λ r. ⌜ r ≡ ranDown self ⌝ }
+    {
+        let left = self.left;
+        if left <= 1 {
+            self.with_run(rules::NO_RUN, 0)
+        } else {
+            self.with_run(self.run, left - 1)
+        }
+    }
+
+    // Steps 1 to 3.
+    pub fn advance(self) -> Advanced
+        requires { ⌜ Ranges (self .params) ⌝ }
+        ensures { λ r. ⌜ r ≡ advance self ⌝ }
+    {
+        let a = self.aged();
+        let rank = a.ruling();
+        let m = a.moved(rank).ran_down();
+        Advanced {
+            drive: m,
+            rank: rank,
+            motor: rules::motor(
+                self.params[table::OPEN_CLOSE_DIRECTION],
+                self.position,
+                m.position,
+            ),
+        }
+    }
+
+    // The status of the record as it is.
+    pub fn status(self) -> u8
+        ensures { λ r. ⌜ r ≡ statusOf self ⌝ }
+    {
+        rules::status(
+            self.fault,
+            self.hand,
+            self.tool,
+            self.run,
+            self.forcing,
+            self.bus_on(),
+        )
+    }
+
+    // Whether a report is due after steps 1 to 3, which left this status.
+    pub fn due(self, status: u8) -> bool
+        ensures { λ r. ⌜ r ≡ dueWith self status ⌝ }
+    {
+        let changed = rules::changed(self.params[table::ACT_POS_COV], self.position, self.lastpos);
+        (self.params[table::MIN_REP_TIME] <= self.since)
+            & (!self.reported
+                | changed
+                | (status != self.laststatus)
+                | (self.params[table::REP_PER] <= self.since))
+    }
+}

@@ -1,0 +1,3 @@
+-- The event record of document 01: its reader and its writer.
+pub mod Event
+pub mod Laws

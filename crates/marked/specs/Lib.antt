@@ -1,0 +1,2 @@
+-- The marked rows of document 01.
+pub mod Rows

@@ -1,0 +1,20 @@
+-- The small words that the definitions of document 01's drive are written in.
+use mathlib.Core.Bool.{Bool, true, false}
+use Prim.Native.Nat.{ℕ, _+_, _-_, min}
+
+-- `a` where the flag is set, else `b`
+abbrev pub pick : {A : Type 0} → Bool → A → A → A
+pick true a b = a
+pick false a b = b
+
+-- the weight `w` where the flag is set, else 0
+abbrev pub bit : Bool → ℕ → ℕ
+bit c w = pick c w 0
+
+-- how far `a` and `b` are apart
+abbrev pub distance : ℕ → ℕ → ℕ
+distance a b = (a - b) + (b - a)
+
+-- one more, for a count that stops at 65,535
+abbrev pub next : ℕ → ℕ
+next n = min (n + 1) 65535

@@ -1,0 +1,55 @@
+// Small functions on numbers and flags, each fixed by a definition of specs/Numbers.
+ghost use mathlib.Core.Path.{_≡_};
+ghost use Prim.Native.Nat.{_≤_, min, max};
+ghost use Rattle.numbers.specs.Numbers.{pick, bit, distance, next};
+
+pub fn pick8(c: bool, a: u8, b: u8) -> u8
+    ensures { λ r. ⌜ r ≡ pick c a b ⌝ }
+{
+    if c { a } else { b }
+}
+
+pub fn pick_bool(c: bool, a: bool, b: bool) -> bool
+    ensures { λ r. ⌜ r ≡ pick c a b ⌝ }
+{
+    if c { a } else { b }
+}
+
+pub fn pick16(c: bool, a: u16, b: u16) -> u16
+    ensures { λ r. ⌜ r ≡ pick c a b ⌝ }
+{
+    if c { a } else { b }
+}
+
+// The bound lets a caller's sum of bits fit without a proof of its own.
+pub fn bit(c: bool, w: u8) -> u8
+    ensures value { λ r. ⌜ r ≡ bit c w ⌝ }
+    ensures bound { λ r. ⌜ r ≤ w ⌝ }
+{
+    if c { w } else { 0 }
+}
+
+pub fn min8(a: u8, b: u8) -> u8
+    ensures { λ r. ⌜ r ≡ min a b ⌝ }
+{
+    if a < b { a } else { b }
+}
+
+pub fn max8(a: u8, b: u8) -> u8
+    ensures { λ r. ⌜ r ≡ max a b ⌝ }
+{
+    if a < b { b } else { a }
+}
+
+pub fn distance(a: u8, b: u8) -> u8
+    ensures { λ r. ⌜ r ≡ distance a b ⌝ }
+{
+    if a < b { b - a } else { a - b }
+}
+
+// A count that stops at 65,535.
+pub fn next16(n: u16) -> u16
+    ensures { λ r. ⌜ r ≡ next n ⌝ }
+{
+    if n < 65535 { n + 1 } else { 65535 }
+}

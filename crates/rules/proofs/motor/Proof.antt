@@ -1,0 +1,11 @@
+use Rattle.rules.specs.Motion.{motor}
+use borrow.Author.Needs.{needs}
+use Rattle.rules.proofs.motor.Statement.{statement}
+use Rattle.rules.proofs.motor.Tie as tie
+
+returns : tie.Need-returns
+unfolding motor
+returns c = simp (c .pick84 .ensures, c .before .pick83 .ensures, c .before .before .pick82 .ensures, c .before .before .before .pick8 .ensures)
+
+pub motor-spec : {M : Type 1} → statement M
+motor-spec = tie.close (tie.spec (λ c κs. search needs) (λ c κs. search needs) (λ c κs. search needs) (λ c κs. search needs) returns)

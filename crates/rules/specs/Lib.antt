@@ -1,0 +1,7 @@
+-- Document 01's rules over plain numbers and flags, so that a drive record and a list of events can both supply them.
+pub mod Motion
+pub mod MotionLaws
+pub mod Rank
+pub mod RankLaws
+pub mod Report
+pub mod Refusal

@@ -1,0 +1,3 @@
+-- The parameter table of document 01.
+pub mod Table
+pub mod Laws
