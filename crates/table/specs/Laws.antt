@@ -1,5 +1,5 @@
 -- Laws of the table: the range rule at each row, from one test of the whole table, and the search by number.
-use mathlib.Core.Path.{_≡_, refl, sym, ap, _∙_}
+use mathlib.Core.Path.{_≡_, refl, sym, ap, subst, _∙_}
 use mathlib.Core.Bool.{Bool, true, false, _&&_, false≢true}
 use mathlib.Core.List.{List, [], _∷_, map}
 use Prim.Native.Nat.{ℕ, zero, suc, _+_, _-_, _<_, _≤_}
@@ -103,3 +103,18 @@ places = refl
 pub fresh-in : Table.allIn Table.rows Table.freshValues ≡ true
 unfolding Table.allIn
 fresh-in = refl
+
+-- what holds of each row's number holds of every number of the table
+abbrev pub EachNumber : (ℕ → Type 0) → List Row → Type 0
+EachNumber P [] = Unit {0}
+EachNumber P (r ∷ l) = P (r .number) × EachNumber P l
+
+pub by-number : (P : ℕ → Type 0) (l : List Row) (i n : ℕ) → EachNumber P l → Table.placeFrom l i n < i + length l → P n
+unfolding Table.placeFrom
+by-number P [] i n ps h = absurd (omega arith)
+by-number P (r ∷ l) i n ps h = go (eqb (r .number) n) refl h (λ k. by-number P l (i + 1) n (ps .1) k)
+  where
+    go : (b : Bool) → eqb (r .number) n ≡ b → pick b i (Table.placeFrom l (i + 1) n) < i + suc (length l)
+        → (Table.placeFrom l (i + 1) n < i + 1 + length l → P n) → P n
+    go true e h ih = subst P (eqb-true _ n e) (ps .0)
+    go false e h ih = ih (omega arith)

@@ -1,0 +1,240 @@
+-- The record after an accepted event agrees with what is read off the list, field by field.
+use mathlib.Core.Path.{_≡_, refl, sym, ap, subst, _∙_}
+use mathlib.Core.Bool.{Bool, true, false, not, _&&_, _||_, and-false, or-true, false≢true}
+use mathlib.Core.List.{List, [], _∷_}
+use Prim.Native.Nat.{ℕ, _+_, _-_, _<_, _≤_, min}
+use native.Mathlib.Omega.{arith}
+use native.Mathlib.Nat.{sub-zero}
+use lib.Dec.{leb, ltb, eqb}
+use lib.ListN.{getD}
+use borrow.Author.Tests.{leb-true, leb-false, le-leb, lt-leb, lt-ltb, eqb-true}
+use Rattle.numbers.specs.Numbers.{pick, next}
+use Rattle.numbers.specs.Laws.{cases, not-false, and-right}
+use Rattle.table.specs.Table.{rows, rowAt, allIn, known, timeout, minRepTime, rate, startSynchronization}
+use Rattle.table.specs.Laws.{at, bounds, ranges}
+use Rattle.event.specs.declared.Event.{Event}
+use Rattle.event.specs.Event.{event, badKind, badA, dataRefusal, valueOf}
+use Rattle.event.specs.Laws.{by-kind}
+use Rattle.rules.specs.Motion.{toPosition, runTicks, toward}
+use Rattle.rules.specs.MotionLaws.{run-ticks-pos}
+use Rattle.rules.specs.Rank.{running, forced, forbidsRun, busActive, activeByte, rulingRank, targets}
+use Rattle.rules.specs.Report.{status}
+use Rattle.damper.specs.declared.Drive.{Drive}
+use Rattle.damper.specs.declared.Advanced.{Advanced}
+use Rattle.damper.specs.declared.Outcome.{Outcome}
+use Rattle.damper.specs.WellFormed.{wellFormed, runFits}
+use Rattle.damper.specs.Tick.{aged, busOn, ruling, targetAt, advance, statusOf}
+use Rattle.damper.specs.Step.{applied, startRun}
+use Rattle.invariant.specs.Effects as F
+use Rattle.invariant.specs.Kept as K
+use Rattle.history.specs.Readings as R
+use Rattle.history.specs.ReadLaws.{value-cons, age-cons, parameters-other, parameters-write}
+use Rattle.history.specs.RunLaws.{leftOf, leftIn, run-below, run-below-tick, left-below, left-below-tick}
+
+-- each field but position, since and the last report
+pub record Agrees (d : Drive) (h : List Event) : Type 0 where
+  pub params : d .params ≡ R.parameters h
+  pub fault : d .fault ≡ R.faultIn h
+  pub forcing : d .forcing ≡ R.forcingIn h
+  pub hand : d .hand ≡ R.handIn h
+  pub handpos : d .handpos ≡ R.handValue h
+  pub tool : d .tool ≡ R.toolIn h
+  pub toolpos : d .toolpos ≡ R.toolValue h
+  pub bus : d .bus ≡ R.setpointIn h
+  pub setpoint : d .setpoint ≡ R.setpointValue h
+  pub age : d .age ≡ min (R.setpointAge h) 65535
+  pub run : d .run ≡ R.runIn h
+  pub left : d .left ≡ leftIn h
+
+-- the bounds of the parameters that the counts are compared with
+pub timeout-most : (p : List ℕ) → allIn rows p ≡ true → timeout p ≤ 7200
+timeout-most p e = bounds (rowAt rows 7) (timeout p) (at rows p 7 e (omega arith)) .1
+
+pub wait-most : (p : List ℕ) → allIn rows p ≡ true → minRepTime p ≤ 3600
+wait-most p e = bounds (rowAt rows 3) (minRepTime p) (at rows p 3 e (omega arith)) .1
+
+-- a capped count and the count pass the same test against a limit below the cap
+capped : (n t : ℕ) → t < 65535 → leb (min n 65535) t ≡ leb n t
+capped n t h =
+    cases (leb n t)
+    (λ e. let l : n ≤ t = leb-true n t e in le-leb (min n 65535) t (omega arith) ∙ sym e)
+    (λ e. let l : t < n = leb-false n t e in lt-leb (min n 65535) t (omega arith) ∙ sym e)
+
+pub bus-agrees : (d : Drive) (h : List Event) → wellFormed d ≡ true → Agrees d h → busOn d ≡ R.busIn h
+unfolding R.busIn
+bus-agrees d h w g =
+    rw (g .bus, g .age)
+    (rw (capped (R.setpointAge h) (timeout (d .params)) (let l = timeout-most (d .params) (K.parts d w .params) in omega arith))
+    (rw (g .params)))
+
+pub status-agrees : (d : Drive) (h : List Event) → wellFormed d ≡ true → Agrees d h → statusOf d ≡ R.statusIn h
+unfolding R.statusIn
+status-agrees d h w g = rw (bus-agrees d h w g) (rw (g .fault, g .hand, g .tool, g .run, g .forcing))
+
+age-law : (r s t b : Bool) (a n : ℕ) → a ≡ min n 65535
+    → pick r 0 (pick s 0 (pick t (pick b (next a) a) a)) ≡ min (pick r 0 (pick s 0 (pick (b && t) (n + 1) n))) 65535
+age-law true s t b a n e = refl
+age-law false true t b a n e = refl
+age-law false false true true a n e = omega arith
+age-law false false true false a n e = e
+age-law false false false true a n e = e
+age-law false false false false a n e = e
+
+-- where a run is forbidden there is none
+no-run : (r n k : ℕ) (f : Bool) → runFits r n k f ≡ true → f ≡ true → (r ≡ 0) × (n ≡ 0)
+unfolding runFits
+no-run r n k f h e =
+    let p = and-right (leb r 3) _ h in
+    cases (eqb r 0)
+    (λ z. (eqb-true r 0 z, eqb-true n 0 (rw z at p)))
+    (λ z. absurd (false≢true (sym (and-false (leb 1 n && leb n k)) ∙ (rw (z, e) at p))))
+
+-- what is forbidden already need not be ended
+ended-already : (b c : Bool) (r : ℕ) → (b ≡ true → r ≡ 0) → pick c 0 r ≡ pick (b || c) 0 r
+ended-already true true r h = refl
+ended-already true false r h = h refl
+ended-already false c r h = refl
+
+ended-later : (b c : Bool) (r : ℕ) → (c ≡ true → r ≡ 0) → pick (b || false) 0 r ≡ pick (b || c) 0 r
+ended-later true c r h = refl
+ended-later false true r h = h refl
+ended-later false false r h = refl
+
+-- the run and its ticks left, with one event more, as the record takes them
+module _ (h : List Event) (pos : 1 ≤ runTicks (rate (R.parameters h)))
+    (f-run : R.faultIn h ≡ true → R.runIn h ≡ 0) (g-run : forced (R.forcingIn h) ≡ true → R.runIn h ≡ 0)
+    (f-left : R.faultIn h ≡ true → leftIn h ≡ 0) (g-left : forced (R.forcingIn h) ≡ true → leftIn h ≡ 0) where
+  abbrev Run : ℕ → Type 0
+  Run k = (a b c : ℕ) → R.runIn (event k a b c ∷ h)
+      ≡ pick (eqb k 9) (startRun (startSynchronization (R.parameters h)))
+      (pick (eqb k 6) 1
+      (pick (eqb k 1) (pick (leb (leftIn h) 1) 0 (R.runIn h))
+      (pick (eqb k 4) (pick (forbidsRun (R.faultIn h) a) 0 (R.runIn h))
+      (pick (eqb k 7) (pick (forbidsRun (eqb a 1) (R.forcingIn h)) 0 (R.runIn h)) (R.runIn h)))))
+
+  run-read : (k : ℕ) → badKind k ≡ false → Run k
+  unfolding R.runIn R.latest R.ended R.ticks leftIn
+  run-read =
+      by-kind Run
+      (λ a b c. run-below-tick (event 1 a b c) (R.latest R.isStart h) refl refl)
+      (λ a b c. run-below (event 2 a b c) (R.latest R.isStart h) refl)
+      (λ a b c. run-below (event 3 a b c) (R.latest R.isStart h) refl)
+      (λ a b c. run-below (event 4 a b c) (R.latest R.isStart h) refl ∙ ended-already (R.faultIn h) (forced a) _ f-run)
+      (λ a b c. run-below (event 5 a b c) (R.latest R.isStart h) refl)
+      (λ a b c. rw (lt-ltb 0 _ pos))
+      (λ a b c. run-below (event 7 a b c) (R.latest R.isStart h) refl ∙ ended-later (eqb a 1) (forced (R.forcingIn h)) _ g-run)
+      (λ a b c. run-below (event 8 a b c) (R.latest R.isStart h) refl)
+      (λ a b c. rw (lt-ltb 0 _ pos))
+      (λ a b c. run-below (event 10 a b c) (R.latest R.isStart h) refl)
+      (λ a b c. run-below (event 11 a b c) (R.latest R.isStart h) refl)
+
+  abbrev Left : ℕ → Type 0
+  Left k = (a b c : ℕ) → leftIn (event k a b c ∷ h)
+      ≡ pick (eqb k 9) (pick (running (startRun (startSynchronization (R.parameters h)))) (runTicks (rate (R.parameters h))) 0)
+      (pick (eqb k 6) (runTicks (rate (R.parameters h)))
+      (pick (eqb k 1) (leftIn h - 1)
+      (pick (eqb k 4) (pick (forbidsRun (R.faultIn h) a) 0 (leftIn h))
+      (pick (eqb k 7) (pick (forbidsRun (eqb a 1) (R.forcingIn h)) 0 (leftIn h)) (leftIn h)))))
+
+  left-read : (k : ℕ) → badKind k ≡ false → Left k
+  unfolding R.latest R.ended R.ticks leftIn
+  left-read =
+      by-kind Left
+      (λ a b c. left-below-tick (event 1 a b c) (R.latest R.isStart h) refl refl)
+      (λ a b c. left-below (event 2 a b c) (R.latest R.isStart h) refl)
+      (λ a b c. left-below (event 3 a b c) (R.latest R.isStart h) refl)
+      (λ a b c. left-below (event 4 a b c) (R.latest R.isStart h) refl ∙ ended-already (R.faultIn h) (forced a) _ f-left)
+      (λ a b c. left-below (event 5 a b c) (R.latest R.isStart h) refl)
+      (λ a b c. rw (sub-zero (runTicks (rate (R.parameters h)))))
+      (λ a b c. left-below (event 7 a b c) (R.latest R.isStart h) refl ∙ ended-later (eqb a 1) (forced (R.forcingIn h)) _ g-left)
+      (λ a b c. left-below (event 8 a b c) (R.latest R.isStart h) refl)
+      (λ a b c. rw (sub-zero (runTicks (rate (R.parameters h)))))
+      (λ a b c. left-below (event 10 a b c) (R.latest R.isStart h) refl)
+      (λ a b c. left-below (event 11 a b c) (R.latest R.isStart h) refl)
+
+known-write : (e : Event) → dataRefusal e ≡ 0 → eqb (e .kind) 8 ≡ true → known (e .a) ≡ true
+known-write e r k =
+    not-false (known (e .a)) (subst (λ (n : ℕ). badA n (e .a) ≡ false) (eqb-true (e .kind) 8 k) (K.data-passed e r .1))
+
+-- Agreement is kept by every accepted event.
+module _ (d : Drive) (h : List Event) (w : wellFormed d ≡ true) (g : Agrees d h) (e : Event) (r : dataRefusal e ≡ 0) where
+  ok : badKind (e .kind) ≡ false
+  ok = F.data-kind e r
+
+  forbidden : forbidsRun (d .fault) (d .forcing) ≡ true → (d .run ≡ 0) × (d .left ≡ 0)
+  forbidden = no-run (d .run) (d .left) _ _ (K.parts d w .run)
+
+  by-fault : R.faultIn h ≡ true → (d .run ≡ 0) × (d .left ≡ 0)
+  by-fault q = forbidden (rw (g .fault, q))
+
+  by-forcing : forced (R.forcingIn h) ≡ true → (d .run ≡ 0) × (d .left ≡ 0)
+  by-forcing q = forbidden (rw (g .forcing, q) (or-true (d .fault)))
+
+  ticks-pos : 1 ≤ runTicks (rate (R.parameters h))
+  ticks-pos = run-ticks-pos _ (rw (g .params) at (ranges (d .params) (K.parts d w .params) .rate-least))
+
+  params-kept : applied d e .drive .params ≡ R.parameters (e ∷ h)
+  params-kept =
+      F.params-after d e ok
+      ∙ cases (eqb (e .kind) 8)
+      (λ k. rw (k, g .params) (sym (parameters-write e h k (known-write e r k))))
+      (λ k. rw (k, g .params) (sym (parameters-other e h k)))
+
+  run-kept : applied d e .drive .run ≡ R.runIn (e ∷ h)
+  run-kept =
+      F.run-after d e ok
+      ∙ rw (g .run, g .left, g .fault, g .forcing, g .params)
+      (sym (run-read h ticks-pos (λ q. sym (g .run) ∙ by-fault q .0) (λ q. sym (g .run) ∙ by-forcing q .0) (λ q. sym (g .left) ∙ by-fault q .1) (λ q. sym (g .left) ∙ by-forcing q .1) (e .kind) ok (e .a) (e .b) (e .c)))
+
+  left-kept : applied d e .drive .left ≡ leftIn (e ∷ h)
+  left-kept =
+      F.left-after d e ok
+      ∙ rw (g .left, g .fault, g .forcing, g .params)
+      (sym (left-read h ticks-pos (λ q. sym (g .run) ∙ by-fault q .0) (λ q. sym (g .run) ∙ by-forcing q .0) (λ q. sym (g .left) ∙ by-fault q .1) (λ q. sym (g .left) ∙ by-forcing q .1) (e .kind) ok (e .a) (e .b) (e .c)))
+
+  pub agrees-applied : Agrees (applied d e .drive) (e ∷ h)
+  unfolding R.faultIn R.forcingIn R.handIn R.handValue R.toolIn R.toolValue R.setpointIn R.setpointValue
+  agrees-applied =
+      record {
+        params = params-kept;
+        fault = F.fault-after d e ok ∙ rw (g .fault) (sym (value-cons false (λ (x : Event). eqb (x .a) 1) R.isFault e h));
+        forcing = F.forcing-after d e ok ∙ rw (g .forcing) (sym (value-cons 0 (λ (x : Event). x .a) R.isForcing e h));
+        hand = F.hand-after d e ok ∙ rw (g .hand) (sym (value-cons false (λ (x : Event). eqb (x .a) 1) R.isHand e h));
+        handpos = F.handpos-after d e ok ∙ rw (g .handpos) (sym (value-cons 0 (λ (x : Event). pick (eqb (x .a) 1) (x .b) 0) R.isHand e h));
+        tool = F.tool-after d e ok ∙ rw (g .tool) (sym (value-cons false (λ (x : Event). eqb (x .c) 1) R.isTool e h));
+        toolpos = F.toolpos-after d e ok ∙ rw (g .toolpos) (sym (value-cons 0 (λ (x : Event). pick (eqb (x .c) 1) (toPosition (x .b)) 0) R.isTool e h));
+        bus = F.bus-after d e ok ∙ rw (g .bus) (sym (value-cons false (λ (x : Event). true) R.isSetpoint e h));
+        setpoint = F.setpoint-after d e ok ∙ rw (g .setpoint) (sym (value-cons 0 (λ (x : Event). pick (eqb (x .kind) 2) (x .a) (toPosition (x .b))) R.isSetpoint e h));
+        age =
+            F.age-after d e ok ∙ age-law (R.isRestart e) (R.isSetpoint e) (R.isTick e) (d .bus) (d .age) (R.setpointAge h) (g .age)
+            ∙ rw (g .bus) (rw (age-cons e h));
+        run = run-kept;
+        left = left-kept;
+      }
+
+same-bus : (b b′ : Bool) (a a′ t t′ : ℕ) → b ≡ b′ → a ≡ a′ → t ≡ t′ → busActive b a t ≡ busActive b′ a′ t′
+same-bus b b′ a a′ t t′ p q r = rw (p, q, r)
+
+-- the move of a tick is the one read off the list
+module _ (d : Drive) (h : List Event) (w : wellFormed d ≡ true) (g : Agrees d h) (p : d .position ≡ R.positionIn h) (e : Event)
+    (r : dataRefusal e ≡ 0) (w′ : wellFormed (applied d e .drive) ≡ true) where
+  bus-next : e .kind ≡ 1 → busActive (d .bus) (pick (d .bus) (next (d .age)) (d .age)) (timeout (d .params)) ≡ R.busIn (e ∷ h)
+  bus-next k =
+      let o = F.data-kind e r in
+      let b : applied d e .drive .bus ≡ d .bus = F.bus-after d e o ∙ rw k in
+      let a : applied d e .drive .age ≡ pick (d .bus) (next (d .age)) (d .age) = F.age-after d e o ∙ rw k in
+      let q : applied d e .drive .params ≡ d .params = F.params-after d e o ∙ rw k in
+      sym (same-bus _ _ _ _ _ _ b a (ap timeout q)) ∙ bus-agrees (applied d e .drive) (e ∷ h) w′ (agrees-applied d h w g e r)
+
+  pub move-agrees : e .kind ≡ 1
+      → advance d .drive .position ≡ toward (R.positionIn h) (R.targetFrom (R.positionIn h) e h) (rate (R.parameters h))
+  unfolding aged targetAt R.targetFrom R.rankAt
+  move-agrees k =
+      F.advance-position d
+      ∙ rw (bus-next k) (rw (p, g .fault, g .forcing, g .run, g .hand, g .tool, g .handpos, g .toolpos, g .bus, g .setpoint, g .params))
+
+  pub position-kept : applied d e .drive .position ≡ R.positionIn (e ∷ h)
+  unfolding R.positionIn
+  position-kept =
+      F.position-after d e (F.data-kind e r)
+      ∙ cases (eqb (e .kind) 1) (λ k. rw k (move-agrees (eqb-true (e .kind) 1 k))) (λ k. rw k p)

@@ -1,0 +1,132 @@
+-- Demand 3 as a claim about a trace. From the trace come only the answers, which may be reports, and the damper's positions;
+-- what is accepted, in force or active, the target, the position and the status that a tick leaves are read off the list.
+use mathlib.Core.Path.{_≡_}
+use mathlib.Core.Bool.{Bool, true, false, _&&_}
+use mathlib.Core.List.{List, [], _∷_, _++_}
+use Prim.Native.Nat.{ℕ, _+_, _≤_}
+use lib.Dec.{eqb}
+use Rattle.numbers.specs.Numbers.{pick}
+use Rattle.table.specs.Table.{minRepTime, actPosCov, rate}
+use Rattle.event.specs.declared.Event.{Event}
+use Rattle.event.specs.Event.{eventIn}
+use Rattle.rules.specs.Motion.{toward}
+use Rattle.rules.specs.Report.{changed}
+use Rattle.damper.specs.declared.Answer.{Answer}
+use Rattle.damper.specs.declared.Answer.the-variants.{No, Done, Par, At, Tick, Report}
+use Rattle.damper.specs.declared.Drive.{Drive}
+use Rattle.damper.specs.declared.Outcome.{Outcome}
+use Rattle.damper.specs.Record.{freshDrive}
+use Rattle.damper.specs.Answer.{numberOf, isReport}
+use Rattle.damper.specs.Step.{stepOf}
+use Rattle.history.specs.Readings.{isTick, isRestart, parameters, targetFrom, positionIn, statusIn, judgement}
+
+-- one record of the list: its bytes, the answer that it got and the damper's position after it
+pub record Moment : Type 0 where
+  pub bytes : List ℕ
+  pub answer : Answer
+  pub position : ℕ
+
+-- a trace, the latest record first
+abbrev pub Trace : Type 0
+Trace = List Moment
+
+-- the accepted events of a trace, by the list's own judgement, the latest first
+unfoldable pub accepted : Trace → List Event
+accepted [] = []
+accepted (m ∷ t) =
+    let h = accepted t in
+    pick (eqb (judgement h (m .bytes)) 0) (eventIn (m .bytes) ∷ h) h
+
+-- whether the record after the trace `t` is an accepted event that `p` holds of
+abbrev pub acceptedAs : (Event → Bool) → Moment → Trace → Bool
+acceptedAs p m t = eqb (judgement (accepted t) (m .bytes)) 0 && p (eventIn (m .bytes))
+
+-- the position before the next record: "position starts at 0"
+abbrev pub positionAfter : Trace → ℕ
+positionAfter [] = 0
+positionAfter (m ∷ t) = m .position
+
+-- what an answer reports, if anything: position and status
+pub data Sent : Type 0 where
+  silent : Sent
+  sent : ℕ → ℕ → Sent
+
+abbrev pub reportIn : Answer → Sent
+reportIn (No n) = silent
+reportIn Done = silent
+reportIn (Par v) = silent
+reportIn (At p c s) = silent
+reportIn (Tick p r m) = silent
+reportIn (Report p r m s) = sent p s
+
+abbrev pub reports : Moment → Bool
+reports m = isReport (m .answer)
+
+-- "Only accepted ticks count": the accepted ticks among the records of `new`, which came after the trace `old`
+unfoldable pub ticksIn : Trace → Trace → ℕ
+ticksIn [] old = 0
+ticksIn (m ∷ new) old = let n = ticksIn new old in pick (acceptedAs isTick m (new ++ old)) (n + 1) n
+
+-- no accepted restart and no report among the records of `new`, which came after the trace `old`
+pub data Quiet (old : Trace) : Trace → Type 0 where
+  none : Quiet old []
+  more : {m : Moment} {new : Trace} → acceptedAs isRestart m (new ++ old) ≡ false → reports m ≡ false → Quiet old new → Quiet old (m ∷ new)
+
+-- the last report since the last restart
+abbrev pub orEarlier : Sent → Sent → Sent
+orEarlier silent x = x
+orEarlier (sent p s) x = sent p s
+
+unfoldable pub lastReport : Trace → Sent
+lastReport [] = silent
+lastReport (m ∷ t) = pick (acceptedAs isRestart m t) silent (orEarlier (reportIn (m .answer)) (lastReport t))
+
+-- the parameters in force at a record, "as read here"
+abbrev pub inForce : Moment → Trace → List ℕ
+inForce m t = parameters (accepted (m ∷ t))
+
+-- The sentences of demand 3 at one record `m`, which came after the trace `t`.
+pub record Holds (m : Moment) (t : Trace) : Type 0 where
+  -- "Two spontaneous reports are never fewer ticks apart than the MinRepTime in force at the later one", `m` being the later one
+  pub spacing : (between : Trace) (x : Moment) (old : Trace) → t ≡ between ++ (x ∷ old) → reports x ≡ true → reports m ≡ true
+      → minRepTime (inForce m t) ≤ ticksIn (m ∷ between) (x ∷ old)
+  -- "MinRepTime ticks in a row, as in force at the last of them, never pass without restart and without report when that last tick
+  -- leaves a position that differs from the last one reported by ActPosCOV or more, or a status other than the last one reported":
+  -- where they do pass, `m` being the last one, there is a last report, and neither differs from it
+  pub waiting : (row old : Trace) → m ∷ t ≡ row ++ old → acceptedAs isTick m t ≡ true → ticksIn row old ≡ minRepTime (inForce m t) → Quiet old row
+      → (p : ℕ) × (lastReport (m ∷ t) ≡ sent p (statusIn (accepted (m ∷ t))))
+      × (changed (actPosCov (inForce m t)) (positionIn (accepted (m ∷ t))) p ≡ false)
+  -- "Each tick moves the damper by Rate or the distance, the smaller, toward the target of the highest commander which the list
+  -- makes active then."
+  pub move : acceptedAs isTick m t ≡ true
+      → m .position ≡ toward (positionAfter t) (targetFrom (positionAfter t) (eventIn (m .bytes)) (accepted t)) (rate (inForce m t))
+  -- "after every event that position is the one read here"
+  pub position : m .position ≡ positionIn (accepted (m ∷ t))
+  -- "Each report gives exactly the position and status that its tick leaves."
+  pub content : reports m ≡ true → reportIn (m .answer) ≡ sent (positionIn (accepted (m ∷ t))) (statusIn (accepted (m ∷ t)))
+  -- "No other event moves the damper or sends a spontaneous report."
+  pub others : acceptedAs isTick m t ≡ false → (m .position ≡ positionAfter t) × (reports m ≡ false)
+  -- each answer refuses by exactly the number of the list's own judgement, 0 if accepted
+  pub refusal : numberOf (m .answer) ≡ judgement (accepted t) (m .bytes)
+  -- refusal 1 never occurs
+  pub formed : numberOf (m .answer) ≡ 1 → ⊥
+
+-- The claim about a whole trace: the sentences hold at each of its records.
+abbrev pub Claim : Trace → Type 0
+Claim [] = Unit {0}
+Claim (m ∷ t) = Holds m t × Claim t
+
+-- the one name by which the trace calls the drive
+abbrev pub drive : Drive → List ℕ → Outcome
+drive d s = stepOf d s
+
+-- the trace of a drive `d` over a list of records, after the trace `t`: "each later one to the drive that the one before left"
+unfoldable pub traceFrom : Drive → Trace → List (List ℕ) → Trace
+traceFrom d t [] = t
+traceFrom d t (s ∷ ss) =
+    let o = drive d s in
+    traceFrom (o .drive) (record { bytes = s; answer = o .answer; position = o .drive .position } ∷ t) ss
+
+-- "The first event record goes to a fresh drive"
+abbrev pub traceOf : List (List ℕ) → Trace
+traceOf l = traceFrom freshDrive [] l

@@ -1,0 +1,8 @@
+-- Demand 3: what is read off a list of events, the claim, and its proof.
+pub mod Readings
+pub mod Claim
+pub mod ReadLaws
+pub mod RunLaws
+pub mod Agree
+pub mod Facts
+pub mod Theorem

@@ -1,0 +1,306 @@
+-- What an accepted event does to each field of the record, one equation a field, and what a step does with a refusal.
+use mathlib.Core.Path.{_≡_, refl, ap}
+use mathlib.Core.Bool.{Bool, true, false, not, _&&_, _||_}
+use mathlib.Core.List.{List}
+use Prim.Native.Nat.{ℕ, _-_}
+use native.Mathlib.Omega.{arith}
+use lib.Dec.{leb, eqb}
+use lib.ListN.{length, set}
+use borrow.Author.Tests.{eqb-true, eqb-false, ne-eqb}
+use Rattle.numbers.specs.Numbers.{pick, next}
+use Rattle.numbers.specs.Laws.{cases, passed}
+use Rattle.table.specs.Table.{placeOf, damperMode, startSynchronization, rate, low, high}
+use Rattle.event.specs.declared.Event.{Event}
+use Rattle.event.specs.Event.{event, eventIn, badMark, badKind, dataRefusal, recordRefusal, valueOf}
+use Rattle.event.specs.Laws.{by-kind}
+use Rattle.rules.specs.Motion.{toPosition, toward, runTicks}
+use Rattle.rules.specs.Rank.{running, forbidsRun}
+use Rattle.rules.specs.Refusal.{stateRefusal, refusal}
+use Rattle.damper.specs.declared.Drive.{Drive}
+use Rattle.damper.specs.declared.Outcome.{Outcome}
+use Rattle.damper.specs.declared.Answer.the-variants.{No, Report}
+use Rattle.damper.specs.Record.{withCounts, withPosition, withRun, withSetpoint, withTool}
+use Rattle.damper.specs.WellFormed.{wellFormed}
+use Rattle.damper.specs.Tick.{aged, ruling, targetAt, moved, ranDown, advance, statusOf, due}
+use Rattle.damper.specs.Answer.{isReport, numberOf}
+use Rattle.damper.specs.Step.{outcome, done, tickWith, ticked, commanded, calibrated, startRun, restarted, applied, refusalOf, stepOf}
+
+-- kind 3 with command 0, and with another
+abbrev written : Drive → ℕ → Outcome
+written d b = done (withSetpoint d (toPosition b))
+
+abbrev overridden : Drive → ℕ → ℕ → Outcome
+overridden d b c = done (withTool d (eqb c 1) (pick (eqb c 1) (toPosition b) 0))
+
+-- a value for each kind but 1 and 3, which branch
+abbrev Others : Type 0 → Type 0
+Others A = A × A × A × A × A × A × A × A × A
+
+abbrev others : {A : Type 0} → (Event → A) → ℕ → ℕ → ℕ → Others A
+others g a b c = (
+  g (event 2 a b c),
+  g (event 4 a b c),
+  g (event 5 a b c),
+  g (event 6 a b c),
+  g (event 7 a b c),
+  g (event 8 a b c),
+  g (event 9 a b c),
+  g (event 10 a b c),
+  g (event 11 a b c),
+)
+
+-- `f` of the outcome of an accepted event is `g` of the event if it is so of a tick that is due, of one that is not, of a write of
+-- the tool with command 0, of one with another, and of the other nine kinds. Each is an equation of functions of the data bytes.
+after : {A : Type 0} (f : Outcome → A) (d : Drive) (g : Event → A)
+    → (due (advance d .drive) ≡ true → _≡_ {A = ℕ → ℕ → ℕ → A} (λ a b c. f (tickWith true (advance d))) (λ a b c. g (event 1 a b c)))
+    → (due (advance d .drive) ≡ false → _≡_ {A = ℕ → ℕ → ℕ → A} (λ a b c. f (tickWith false (advance d))) (λ a b c. g (event 1 a b c)))
+    → ((c : ℕ) → eqb c 0 ≡ true → _≡_ {A = ℕ → ℕ → A} (λ a b. f (written d b)) (λ a b. g (event 3 a b c)))
+    → ((c : ℕ) → eqb c 0 ≡ false → _≡_ {A = ℕ → ℕ → A} (λ a b. f (overridden d b c)) (λ a b. g (event 3 a b c)))
+    → others (λ e. f (applied d e)) ≡ others g
+    → (e : Event) → badKind (e .kind) ≡ false → f (applied d e) ≡ g e
+unfolding applied ticked commanded
+after f d g t1 t0 w1 w0 o e =
+    let h : others (λ x. f (applied d x)) (e .a) (e .b) (e .c) ≡ others g (e .a) (e .b) (e .c) = λ i. o i (e .a) (e .b) (e .c) in
+    by-kind (λ k. let x = event k (e .a) (e .b) (e .c) in f (applied d x) ≡ g x)
+    (cases (due (advance d .drive)) (λ q. rw q (λ i. t1 q i (e .a) (e .b) (e .c))) (λ q. rw q (λ i. t0 q i (e .a) (e .b) (e .c))))
+    (λ i. h i .0)
+    (cases (eqb (e .c) 0) (λ q. rw q (λ i. w1 (e .c) q i (e .a) (e .b))) (λ q. rw q (λ i. w0 (e .c) q i (e .a) (e .b))))
+    (λ i. h i .1) (λ i. h i .2) (λ i. h i .3) (λ i. h i .4) (λ i. h i .5) (λ i. h i .6) (λ i. h i .7) (λ i. h i .8)
+    (e .kind)
+
+-- the same, where a report and a command 0 make no difference to `f`: one equation of thirteen values
+plain : {A : Type 0} (f : Outcome → A) (d : Drive) (g : Event → A)
+    → _≡_ {A = ℕ → ℕ → ℕ → A × A × A × A × Others A}
+    (λ a b c. (
+      f (tickWith true (advance d)),
+      f (tickWith false (advance d)),
+      f (written d b),
+      f (overridden d b c),
+      others (λ e. f (applied d e)) a b c,
+    ))
+    (λ a b c. (g (event 1 a b c), g (event 1 a b c), g (event 3 a b c), g (event 3 a b c), others g a b c))
+    → (e : Event) → badKind (e .kind) ≡ false → f (applied d e) ≡ g e
+plain f d g h =
+    after f d g (λ q i a b c. h i a b c .0) (λ q i a b c. h i a b c .1) (λ c q i a b. h i a b c .2) (λ c q i a b. h i a b c .3)
+    (λ i a b c. h i a b c .4)
+
+module _ (d : Drive) where
+  -- fault flag and forcing
+  pub fault-after : (e : Event) → badKind (e .kind) ≡ false
+      → applied d e .drive .fault ≡ pick (eqb (e .kind) 9) false (pick (eqb (e .kind) 7) (eqb (e .a) 1) (d .fault))
+  unfolding applied tickWith advance aged moved ranDown calibrated restarted
+  fault-after = plain (λ o. o .drive .fault) d _ refl
+
+  pub forcing-after : (e : Event) → badKind (e .kind) ≡ false
+      → applied d e .drive .forcing ≡ pick (eqb (e .kind) 9) 0 (pick (eqb (e .kind) 4) (e .a) (d .forcing))
+  unfolding applied tickWith advance aged moved ranDown calibrated restarted
+  forcing-after = plain (λ o. o .drive .forcing) d _ refl
+
+  -- hand and tool
+  pub hand-after : (e : Event) → badKind (e .kind) ≡ false
+      → applied d e .drive .hand ≡ pick (eqb (e .kind) 9) false (pick (eqb (e .kind) 5) (eqb (e .a) 1) (d .hand))
+  unfolding applied tickWith advance aged moved ranDown calibrated restarted
+  hand-after = plain (λ o. o .drive .hand) d _ refl
+
+  pub handpos-after : (e : Event) → badKind (e .kind) ≡ false
+      → applied d e .drive .handpos ≡ pick (eqb (e .kind) 9) 0
+      (pick (eqb (e .kind) 5) (pick (eqb (e .a) 1) (e .b) 0) (d .handpos))
+  unfolding applied tickWith advance aged moved ranDown calibrated restarted
+  handpos-after = plain (λ o. o .drive .handpos) d _ refl
+
+  pub tool-after : (e : Event) → badKind (e .kind) ≡ false
+      → applied d e .drive .tool ≡ pick (eqb (e .kind) 9) false
+      (pick (eqb (e .kind) 3 && not (eqb (e .c) 0)) (eqb (e .c) 1) (d .tool))
+  unfolding applied tickWith advance aged moved ranDown calibrated restarted
+  tool-after = after (λ o. o .drive .tool) d _ (λ q. refl) (λ q. refl) (λ c q. rw q) (λ c q. rw q) refl
+
+  pub toolpos-after : (e : Event) → badKind (e .kind) ≡ false
+      → applied d e .drive .toolpos ≡ pick (eqb (e .kind) 9) 0
+      (pick (eqb (e .kind) 3 && not (eqb (e .c) 0)) (pick (eqb (e .c) 1) (toPosition (e .b)) 0) (d .toolpos))
+  unfolding applied tickWith advance aged moved ranDown calibrated restarted
+  toolpos-after = after (λ o. o .drive .toolpos) d _ (λ q. refl) (λ q. refl) (λ c q. rw q) (λ c q. rw q) refl
+
+  -- the bus setpoint and its age
+  pub bus-after : (e : Event) → badKind (e .kind) ≡ false
+      → applied d e .drive .bus ≡ pick (eqb (e .kind) 9) false
+      (pick (eqb (e .kind) 2 || (eqb (e .kind) 3 && eqb (e .c) 0)) true (d .bus))
+  unfolding applied tickWith advance aged moved ranDown calibrated restarted
+  bus-after = after (λ o. o .drive .bus) d _ (λ q. refl) (λ q. refl) (λ c q. rw q) (λ c q. rw q) refl
+
+  pub setpoint-after : (e : Event) → badKind (e .kind) ≡ false
+      → applied d e .drive .setpoint ≡ pick (eqb (e .kind) 9) 0
+      (pick (eqb (e .kind) 2 || (eqb (e .kind) 3 && eqb (e .c) 0))
+      (pick (eqb (e .kind) 2) (e .a) (toPosition (e .b))) (d .setpoint))
+  unfolding applied tickWith advance aged moved ranDown calibrated restarted
+  setpoint-after = after (λ o. o .drive .setpoint) d _ (λ q. refl) (λ q. refl) (λ c q. rw q) (λ c q. rw q) refl
+
+  pub age-after : (e : Event) → badKind (e .kind) ≡ false
+      → applied d e .drive .age ≡ pick (eqb (e .kind) 9) 0
+      (pick (eqb (e .kind) 2 || (eqb (e .kind) 3 && eqb (e .c) 0)) 0
+      (pick (eqb (e .kind) 1) (pick (d .bus) (next (d .age)) (d .age)) (d .age)))
+  unfolding applied tickWith advance aged moved ranDown calibrated restarted
+  age-after = after (λ o. o .drive .age) d _ (λ q. refl) (λ q. refl) (λ c q. rw q) (λ c q. rw q) refl
+
+  -- parameters and position
+  pub params-after : (e : Event) → badKind (e .kind) ≡ false
+      → applied d e .drive .params ≡ pick (eqb (e .kind) 8) (set (d .params) (placeOf (e .a)) (valueOf e)) (d .params)
+  unfolding applied tickWith advance aged moved ranDown calibrated restarted
+  params-after = plain (λ o. o .drive .params) d _ refl
+
+  pub position-after : (e : Event) → badKind (e .kind) ≡ false
+      → applied d e .drive .position ≡ pick (eqb (e .kind) 1) (advance d .drive .position) (d .position)
+  unfolding applied tickWith advance aged moved ranDown calibrated restarted
+  position-after = plain (λ o. o .drive .position) d _ refl
+
+  -- the run and its ticks left
+  pub run-after : (e : Event) → badKind (e .kind) ≡ false
+      → applied d e .drive .run ≡ pick (eqb (e .kind) 9) (startRun (startSynchronization (d .params)))
+      (pick (eqb (e .kind) 6) 1
+      (pick (eqb (e .kind) 1) (pick (leb (d .left) 1) 0 (d .run))
+      (pick (eqb (e .kind) 4) (pick (forbidsRun (d .fault) (e .a)) 0 (d .run))
+      (pick (eqb (e .kind) 7) (pick (forbidsRun (eqb (e .a) 1) (d .forcing)) 0 (d .run)) (d .run)))))
+  unfolding applied tickWith advance aged moved ranDown calibrated restarted
+  run-after = plain (λ o. o .drive .run) d _ refl
+
+  pub left-after : (e : Event) → badKind (e .kind) ≡ false
+      → applied d e .drive .left ≡ pick (eqb (e .kind) 9)
+      (pick (running (startRun (startSynchronization (d .params)))) (runTicks (rate (d .params))) 0)
+      (pick (eqb (e .kind) 6) (runTicks (rate (d .params)))
+      (pick (eqb (e .kind) 1) (d .left - 1)
+      (pick (eqb (e .kind) 4) (pick (forbidsRun (d .fault) (e .a)) 0 (d .left))
+      (pick (eqb (e .kind) 7) (pick (forbidsRun (eqb (e .a) 1) (d .forcing)) 0 (d .left)) (d .left)))))
+  unfolding applied tickWith advance aged moved ranDown calibrated restarted
+  left-after = plain (λ o. o .drive .left) d _ refl
+
+  -- the ticks since the last report, and what it said
+  pub since-after : (e : Event) → badKind (e .kind) ≡ false
+      → applied d e .drive .since ≡ pick (eqb (e .kind) 9) 0
+      (pick (eqb (e .kind) 1) (pick (due (advance d .drive)) 0 (next (d .since))) (d .since))
+  unfolding applied tickWith advance aged moved ranDown calibrated restarted
+  since-after = after (λ o. o .drive .since) d _ (λ q. rw q) (λ q. rw q) (λ c q. refl) (λ c q. refl) refl
+
+  pub reported-after : (e : Event) → badKind (e .kind) ≡ false
+      → applied d e .drive .reported ≡ pick (eqb (e .kind) 9) false
+      (pick (eqb (e .kind) 1 && due (advance d .drive)) true (d .reported))
+  unfolding applied tickWith advance aged moved ranDown calibrated restarted
+  reported-after = after (λ o. o .drive .reported) d _ (λ q. rw q) (λ q. rw q) (λ c q. refl) (λ c q. refl) refl
+
+  pub lastpos-after : (e : Event) → badKind (e .kind) ≡ false
+      → applied d e .drive .lastpos ≡ pick (eqb (e .kind) 9) 0
+      (pick (eqb (e .kind) 1 && due (advance d .drive)) (advance d .drive .position) (d .lastpos))
+  unfolding applied tickWith advance aged moved ranDown calibrated restarted
+  lastpos-after = after (λ o. o .drive .lastpos) d _ (λ q. rw q) (λ q. rw q) (λ c q. refl) (λ c q. refl) refl
+
+  pub laststatus-after : (e : Event) → badKind (e .kind) ≡ false
+      → applied d e .drive .laststatus ≡ pick (eqb (e .kind) 9) 0
+      (pick (eqb (e .kind) 1 && due (advance d .drive)) (statusOf (advance d .drive)) (d .laststatus))
+  unfolding applied tickWith advance aged moved ranDown calibrated restarted
+  laststatus-after = after (λ o. o .drive .laststatus) d _ (λ q. rw q) (λ q. rw q) (λ c q. refl) (λ c q. refl) refl
+
+  -- the answer: it is a report just where a tick is due, and no refusal
+  pub report-after : (e : Event) → badKind (e .kind) ≡ false
+      → isReport (applied d e .answer) ≡ eqb (e .kind) 1 && due (advance d .drive)
+  unfolding applied tickWith advance aged moved ranDown calibrated restarted
+  report-after = after (λ o. isReport (o .answer)) d _ (λ q. rw q) (λ q. rw q) (λ c q. refl) (λ c q. refl) refl
+
+  pub number-after : (e : Event) → badKind (e .kind) ≡ false
+      → numberOf (applied d e .answer) ≡ 0
+  unfolding applied tickWith advance aged moved ranDown calibrated restarted
+  number-after = plain (λ o. numberOf (o .answer)) d _ refl
+
+  pub answer-report : (e : Event) → e .kind ≡ 1 → due (advance d .drive) ≡ true
+      → applied d e .answer ≡ Report (advance d .drive .position) (advance d .rank) (advance d .motor) (statusOf (advance d .drive))
+  unfolding applied ticked tickWith
+  answer-report e k q = rw (k, q)
+
+  -- steps 1 to 3 of a tick: the record whole, then field by field
+  pub advance-drive : advance d .drive ≡ withRun
+      (withPosition (withCounts d (pick (d .bus) (next (d .age)) (d .age)) (next (d .since)))
+      (toward (d .position) (targetAt (aged d) (ruling (aged d))) (rate (d .params))))
+      (pick (leb (d .left) 1) 0 (d .run))
+      (d .left - 1)
+  unfolding advance aged moved ranDown
+  advance-drive = refl
+
+  pub advance-params : advance d .drive .params ≡ d .params
+  advance-params = ap (λ x. x .params) advance-drive
+
+  pub advance-fault : advance d .drive .fault ≡ d .fault
+  advance-fault = ap (λ x. x .fault) advance-drive
+
+  pub advance-forcing : advance d .drive .forcing ≡ d .forcing
+  advance-forcing = ap (λ x. x .forcing) advance-drive
+
+  pub advance-hand : advance d .drive .hand ≡ d .hand
+  advance-hand = ap (λ x. x .hand) advance-drive
+
+  pub advance-handpos : advance d .drive .handpos ≡ d .handpos
+  advance-handpos = ap (λ x. x .handpos) advance-drive
+
+  pub advance-tool : advance d .drive .tool ≡ d .tool
+  advance-tool = ap (λ x. x .tool) advance-drive
+
+  pub advance-toolpos : advance d .drive .toolpos ≡ d .toolpos
+  advance-toolpos = ap (λ x. x .toolpos) advance-drive
+
+  pub advance-bus : advance d .drive .bus ≡ d .bus
+  advance-bus = ap (λ x. x .bus) advance-drive
+
+  pub advance-setpoint : advance d .drive .setpoint ≡ d .setpoint
+  advance-setpoint = ap (λ x. x .setpoint) advance-drive
+
+  pub advance-reported : advance d .drive .reported ≡ d .reported
+  advance-reported = ap (λ x. x .reported) advance-drive
+
+  pub advance-lastpos : advance d .drive .lastpos ≡ d .lastpos
+  advance-lastpos = ap (λ x. x .lastpos) advance-drive
+
+  pub advance-laststatus : advance d .drive .laststatus ≡ d .laststatus
+  advance-laststatus = ap (λ x. x .laststatus) advance-drive
+
+  pub advance-age : advance d .drive .age ≡ pick (d .bus) (next (d .age)) (d .age)
+  advance-age = ap (λ x. x .age) advance-drive
+
+  pub advance-since : advance d .drive .since ≡ next (d .since)
+  advance-since = ap (λ x. x .since) advance-drive
+
+  pub advance-run : advance d .drive .run ≡ pick (leb (d .left) 1) 0 (d .run)
+  advance-run = ap (λ x. x .run) advance-drive
+
+  pub advance-left : advance d .drive .left ≡ d .left - 1
+  advance-left = ap (λ x. x .left) advance-drive
+
+  pub advance-position : advance d .drive .position ≡ toward (d .position) (targetAt (aged d) (ruling (aged d))) (rate (d .params))
+  advance-position = ap (λ x. x .position) advance-drive
+
+  -- a step that refuses keeps the record and says the number; one that does not applies the event
+  pub step-refused : (s : List ℕ) → (refusalOf d s ≡ 0 → ⊥) → stepOf d s ≡ outcome d (No (refusalOf d s))
+  unfolding stepOf
+  step-refused s h = rw (ne-eqb (refusalOf d s) 0 h)
+
+  pub step-accepted : (s : List ℕ) → refusalOf d s ≡ 0 → stepOf d s ≡ applied d (eventIn s)
+  unfolding stepOf
+  step-accepted s h = rw h
+
+  pub refusal-wf : (s : List ℕ) → wellFormed d ≡ true
+      → refusalOf d s ≡ refusal s (damperMode (d .params)) (low (d .params)) (high (d .params)) (running (d .run))
+      (forbidsRun (d .fault) (d .forcing))
+  unfolding refusalOf
+  refusal-wf s h = rw h
+
+-- a record that none of 2 to 13 fits: none of 2 to 8 does, none of 9 to 13, none of 4 to 8, and its kind is 1 to 11
+pub refusal-parts : (s : List ℕ) (m l h : ℕ) (r f : Bool) → refusal s m l h r f ≡ 0
+    → (recordRefusal s ≡ 0) × (stateRefusal (eventIn s) m l h r f ≡ 0)
+unfolding refusal
+refusal-parts s m l h r f q =
+    cases (eqb (recordRefusal s) 0) (λ t. (eqb-true _ _ t, rw t at q)) (λ t. absurd (eqb-false _ _ t (rw t at q)))
+
+pub record-data : (s : List ℕ) → recordRefusal s ≡ 0 → dataRefusal (eventIn s) ≡ 0
+unfolding recordRefusal
+record-data s h =
+    let t = passed (not (eqb (length s) 6)) 2 (pick (badMark s) 3 (dataRefusal (eventIn s))) h (omega arith) in
+    passed (badMark s) 3 (dataRefusal (eventIn s)) (t .1) (omega arith) .1
+
+pub data-kind : (e : Event) → dataRefusal e ≡ 0 → badKind (e .kind) ≡ false
+unfolding dataRefusal
+data-kind e h = passed (badKind (e .kind)) 4 _ h (omega arith) .0

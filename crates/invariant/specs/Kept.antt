@@ -1,0 +1,377 @@
+-- Every event keeps a drive record well formed.
+use mathlib.Core.Path.{_≡_, refl, sym, ap, _∙_}
+use mathlib.Core.Bool.{Bool, true, false, not, _&&_, _||_, and-eq-true-iff, or-true}
+use mathlib.Core.List.{List, [], _∷_}
+use Prim.Native.Nat.{ℕ, suc, _+_, _-_, _≤_, _<_}
+use native.Mathlib.Nat.{sub-self, le-refl}
+use native.Mathlib.Omega.{arith}
+use lib.Dec.{leb, ltb, eqb}
+use lib.ListN.{getD, set, length}
+use lib.Seq.{getD-set-same, getD-set-other}
+use borrow.Author.Tests.{leb-true, leb-false, eqb-true, eqb-false, ltb-true, ltb-false, le-leb, eq-eqb}
+use Rattle.numbers.specs.Numbers.{pick}
+use Rattle.numbers.specs.Laws.{and-left, and-right, and-intro, not-false, pick-elim, passed}
+use Rattle.table.specs.declared.Row.{Row}
+use Rattle.table.specs.Table.{rows, rowAt, allIn, placeFrom, placeOf, known, takes, damperMode, startSynchronization, rate, low, high}
+use Rattle.table.specs.Laws.{all-length, all-set}
+use Rattle.event.specs.declared.Event.{Event}
+use Rattle.event.specs.Event.{event, eventIn, badMark, badKind, unusedSet, badA, dataRefusal, recordRefusal}
+use Rattle.event.specs.Laws.{by-kind}
+use Rattle.rules.specs.Motion.{runTicks}
+use Rattle.rules.specs.MotionLaws.{run-ticks-pos}
+use Rattle.rules.specs.Rank.{running, forbidsRun}
+use Rattle.rules.specs.Refusal.{wrongProperty, outsideTable, lowAboveHigh, rateInRun, runForbidden, stateRefusal, refusal}
+use Rattle.damper.specs.declared.Drive.{Drive}
+use Rattle.damper.specs.declared.Advanced.{Advanced}
+use Rattle.damper.specs.declared.Outcome.{Outcome}
+use Rattle.damper.specs.Record.{freshDrive, withCounts, withPosition, withRun, withReport, withParam, withSetpoint, withTool, withHand, withInterlocks, cleared}
+use Rattle.damper.specs.WellFormed.{offZero, runFits, absentZero, wellFormed}
+use Rattle.damper.specs.Laws.{wf-ranges}
+use Rattle.damper.specs.Tick.{aged, moved, ranDown, advance, statusOf}
+use Rattle.damper.specs.Step.{tickWith, ticked, commanded, calibrated, startRun, restarted, applied, refusalOf, stepOf}
+
+-- where neither of two is set, the first is not
+or-left : (a b : Bool) → a || b ≡ false → a ≡ false
+or-left true b e = e
+or-left false b e = refl
+
+-- Laws of the table: what a write of one parameter leaves at a place.
+
+-- the row at the place of a number has that number
+pub place-number : (l : List Row) (i n : ℕ) → placeFrom l i n < i + length l → (i ≤ placeFrom l i n) × (rowAt l (placeFrom l i n - i) .number ≡ n)
+unfolding placeFrom
+place-number [] i n h = absurd (omega arith)
+place-number (r ∷ l) i n h = go (eqb (r .number) n) refl h (λ k. place-number l (i + 1) n k)
+  where
+    go : (b : Bool) → eqb (r .number) n ≡ b → pick b i (placeFrom l (i + 1) n) < i + suc (length l)
+        → (placeFrom l (i + 1) n < i + 1 + length l → (i + 1 ≤ placeFrom l (i + 1) n) × (rowAt l (placeFrom l (i + 1) n - (i + 1)) .number ≡ n))
+        → (i ≤ pick b i (placeFrom l (i + 1) n)) × (rowAt (r ∷ l) (pick b i (placeFrom l (i + 1) n) - i) .number ≡ n)
+    go true e h ih = (omega arith, rw (sub-self i) (eqb-true _ n e))
+    go false e h ih =
+        let t = ih (omega arith) in
+        let s : placeFrom l (i + 1) n - i ≡ suc (placeFrom l (i + 1) n - (i + 1)) = omega arith in
+        (omega arith, rw s (t .1))
+
+-- the same, of the table and a number that it has
+pub number-at : (n : ℕ) → known n ≡ true → rowAt rows (placeOf n) .number ≡ n
+number-at n h =
+    let t = place-number rows 0 n (ltb-true _ _ h) in
+    let z : placeOf n - 0 ≡ placeOf n = omega arith in
+    rw z at (t .1)
+
+-- after a write to the parameter with number `a`, place `k` of number `m` holds the value where `a` is `m`, else what it held
+pub param-after : (p : List ℕ) (a v : ℕ) → length p ≡ length rows → known a ≡ true → (k m : ℕ) → known m ≡ true → placeOf m ≡ k
+    → getD (set p (placeOf a) v) k 0 ≡ pick (eqb a m) v (getD p k 0)
+param-after p a v len ka k m km e = go (eqb a m) refl
+  where
+    go : (b : Bool) → eqb a m ≡ b → getD (set p (placeOf a) v) k 0 ≡ pick b v (getD p k 0)
+    go true q =
+        let z : placeOf a ≡ k = rw (eqb-true a m q) e in
+        let i : k < length p = omega (arith, ltb-true (placeOf m) (length rows) km) in
+        rw z (getD-set-same p k v 0 i)
+    go false q =
+        getD-set-other p (placeOf a) k v 0
+        (λ z. eqb-false a m q (sym (number-at a ka) ∙ ap (λ (x : ℕ). rowAt rows x .number) (sym z ∙ sym e) ∙ number-at m km))
+
+-- Low stays at most High where a write of either is not refused: `x` a write of Low, `y` one of High
+order-kept : (x y : Bool) (v l h : ℕ) → leb l h ≡ true → ((x && ltb h v) || (y && ltb v l)) ≡ false → leb (pick x v l) (pick y v h) ≡ true
+order-kept true true v l h o c = le-leb v v (le-refl v)
+order-kept true false v l h o c = le-leb v h (ltb-false h v (or-left _ _ c))
+order-kept false true v l h o c = le-leb l v (ltb-false v l c)
+order-kept false false v l h o c = o
+
+-- Well-formedness in its parts, one for each clause of the paper's sentence.
+pub record Parts (d : Drive) : Type 0 where
+  pub params : allIn rows (d .params) ≡ true
+  pub order : leb (low (d .params)) (high (d .params)) ≡ true
+  pub forcing : leb (d .forcing) 3 ≡ true
+  pub run : runFits (d .run) (d .left) (runTicks (rate (d .params))) (forbidsRun (d .fault) (d .forcing)) ≡ true
+  pub hand : offZero (d .hand) (d .handpos) ≡ true
+  pub tool : offZero (d .tool) (d .toolpos) ≡ true
+  pub setpoint : offZero (d .bus) (d .setpoint) ≡ true
+  pub age : offZero (d .bus) (d .age) ≡ true
+  pub lastpos : offZero (d .reported) (d .lastpos) ≡ true
+  pub laststatus : offZero (d .reported) (d .laststatus) ≡ true
+
+-- a well-formed record has each part
+pub parts : (d : Drive) → wellFormed d ≡ true → Parts d
+unfolding wellFormed absentZero
+parts d h =
+    let s = simp and-eq-true-iff at h in
+    let b = s .1 .0 in
+    let a = s .1 .1 in
+    record {
+      params = s .0;
+      order = b .0 .0;
+      forcing = b .0 .1;
+      run = b .1;
+      hand = a .0 .0 .0 .0 .0;
+      tool = a .0 .0 .0 .0 .1;
+      setpoint = a .0 .0 .0 .1;
+      age = a .0 .0 .1;
+      lastpos = a .0 .1;
+      laststatus = a .1;
+    }
+
+-- the parts, in the same order, make it whole
+pub whole : (d : Drive) → allIn rows (d .params) ≡ true → leb (low (d .params)) (high (d .params)) ≡ true → leb (d .forcing) 3 ≡ true
+    → runFits (d .run) (d .left) (runTicks (rate (d .params))) (forbidsRun (d .fault) (d .forcing)) ≡ true
+    → offZero (d .hand) (d .handpos) ≡ true → offZero (d .tool) (d .toolpos) ≡ true → offZero (d .bus) (d .setpoint) ≡ true
+    → offZero (d .bus) (d .age) ≡ true → offZero (d .reported) (d .lastpos) ≡ true → offZero (d .reported) (d .laststatus) ≡ true
+    → wellFormed d ≡ true
+unfolding wellFormed absentZero
+whole d p o g r h t s a l m =
+    and-intro p (and-intro (and-intro (and-intro o g) r) (and-intro (and-intro (and-intro (and-intro (and-intro h t) s) a) l) m))
+
+-- Laws of a run that fits.
+
+-- a run of K ticks fits where none is forbidden, and so does no run with no ticks
+run-start : (r k : ℕ) (f : Bool) → leb r 3 ≡ true → 1 ≤ k → f ≡ false → runFits r (pick (running r) k 0) k f ≡ true
+unfolding runFits
+run-start r k f h p e = go (running r)
+  where
+    go : (b : Bool) → leb r 3 && pick b ((leb 1 (pick b k 0) && leb (pick b k 0) k) && not f) (eqb (pick b k 0) 0) ≡ true
+    go true = simp (h, e, le-leb 1 k p, le-leb k k (le-refl k))
+    go false = rw h
+
+-- a run that fits also fits with fewer ticks, if not none, and where nothing new forbids it
+run-within : (r n m k : ℕ) (f g : Bool) → runFits r n k f ≡ true → m ≤ n → (1 ≤ n → 1 ≤ m) → (not f ≡ true → not g ≡ true) → runFits r m k g ≡ true
+unfolding runFits
+run-within r n m k f g h a b q = and-intro (and-left (leb r 3) _ h) (go (running r) (and-right (leb r 3) _ h))
+  where
+    go : (x : Bool) → pick x ((leb 1 n && leb n k) && not f) (eqb n 0) ≡ true → pick x ((leb 1 m && leb m k) && not g) (eqb m 0) ≡ true
+    go true t =
+        let s = simp and-eq-true-iff at t in
+        let lo = leb-true 1 n (s .0 .0) in
+        let hi = leb-true n k (s .0 .1) in
+        and-intro (and-intro (le-leb 1 m (b lo)) (le-leb m k (omega arith))) (q (s .1))
+    go false t = let z = eqb-true n 0 t in eq-eqb m 0 (omega arith)
+
+-- it still fits after a tick
+run-down : (r n k : ℕ) (f : Bool) → runFits r n k f ≡ true → runFits (pick (leb n 1) 0 r) (n - 1) k f ≡ true
+unfolding runFits
+run-down r n k f h =
+    pick-elim (λ (x : ℕ). runFits x (n - 1) k f ≡ true) (leb n 1)
+    (λ e. let z : n - 1 ≡ 0 = omega (arith, leb-true n 1 e) in rw z)
+    (λ e. let q = leb-false n 1 e in run-within r n (n - 1) k f f h (omega arith) (λ y. omega arith) (λ y. y))
+
+-- after a change of what forbids it, it still fits where allowed, and no run stands in its place where forbidden
+run-interlock : (r n k : ℕ) (f g : Bool) → runFits r n k f ≡ true → runFits (pick g 0 r) (pick g 0 n) k g ≡ true
+unfolding runFits
+run-interlock r n k f true h = refl
+run-interlock r n k f false h = run-within r n n k f false h (le-refl n) (λ y. y) (λ y. refl)
+
+-- it still fits after a write of a Rate `v` that is not during a run: `x` a write of Rate, `u` the Rate before
+run-rate : (x : Bool) (r n v u : ℕ) (f : Bool) → x && running r ≡ false → runFits r n (runTicks u) f ≡ true → runFits r n (runTicks (pick x v u)) f ≡ true
+unfolding runFits
+run-rate true r n v u f o h = simp o (simp o at h)
+run-rate false r n v u f o h = h
+
+-- Each update keeps a record well formed where what it changes fits.
+
+-- a value beside a flag, chosen by that flag, is 0 where the flag is off
+off-pick : (b : Bool) (x y : ℕ) → offZero b y ≡ true → offZero b (pick b x y) ≡ true
+off-pick true x y h = refl
+off-pick false x y h = h
+
+module _ (d : Drive) (w : wellFormed d ≡ true) where
+  -- the parts of the record before the update
+  its : Parts d
+  its = parts d w
+
+  -- an age only where there is a setpoint
+  pub wf-counts : (a s : ℕ) → offZero (d .bus) a ≡ true → wellFormed (withCounts d a s) ≡ true
+  wf-counts a s h =
+      whole (withCounts d a s) (its .params) (its .order) (its .forcing) (its .run) (its .hand) (its .tool) (its .setpoint) h (its .lastpos) (its .laststatus)
+
+  -- any position
+  pub wf-position : (p : ℕ) → wellFormed (withPosition d p) ≡ true
+  unfolding wellFormed absentZero
+  wf-position p = w
+
+  -- a run that fits
+  pub wf-run : (r n : ℕ) → runFits r n (runTicks (rate (d .params))) (forbidsRun (d .fault) (d .forcing)) ≡ true → wellFormed (withRun d r n) ≡ true
+  wf-run r n h =
+      whole (withRun d r n) (its .params) (its .order) (its .forcing) h (its .hand) (its .tool) (its .setpoint) (its .age) (its .lastpos) (its .laststatus)
+
+  -- any report
+  pub wf-report : (s : ℕ) → wellFormed (withReport d s) ≡ true
+  wf-report s =
+      whole (withReport d s) (its .params) (its .order) (its .forcing) (its .run) (its .hand) (its .tool) (its .setpoint) (its .age) refl refl
+
+  -- any setpoint
+  pub wf-setpoint : (v : ℕ) → wellFormed (withSetpoint d v) ≡ true
+  wf-setpoint v =
+      whole (withSetpoint d v) (its .params) (its .order) (its .forcing) (its .run) (its .hand) (its .tool) refl refl (its .lastpos) (its .laststatus)
+
+  -- an override whose value is 0 where its flag is off, and the same of the hand
+  pub wf-tool : (on : Bool) (v : ℕ) → offZero on v ≡ true → wellFormed (withTool d on v) ≡ true
+  wf-tool on v h =
+      whole (withTool d on v) (its .params) (its .order) (its .forcing) (its .run) (its .hand) h (its .setpoint) (its .age) (its .lastpos) (its .laststatus)
+
+  pub wf-hand : (on : Bool) (v : ℕ) → offZero on v ≡ true → wellFormed (withHand d on v) ≡ true
+  wf-hand on v h =
+      whole (withHand d on v) (its .params) (its .order) (its .forcing) (its .run) h (its .tool) (its .setpoint) (its .age) (its .lastpos) (its .laststatus)
+
+  -- any fault flag, and forcing of at most 3
+  pub wf-interlocks : (f : Bool) (g : ℕ) → leb g 3 ≡ true → wellFormed (withInterlocks d f g) ≡ true
+  wf-interlocks f g h =
+      whole (withInterlocks d f g) (its .params) (its .order) h (run-interlock _ _ _ _ (forbidsRun f g) (its .run)) (its .hand) (its .tool) (its .setpoint) (its .age) (its .lastpos) (its .laststatus)
+
+  -- a cleared record, before a start run
+  pub wf-cleared : wellFormed (cleared d) ≡ true
+  unfolding runFits
+  wf-cleared = whole (cleared d) (its .params) (its .order) refl refl refl refl refl refl refl refl
+
+-- What each kind of event does keeps a record well formed.
+
+-- a run that a restart starts is one of the four
+start-le : (s : ℕ) → leb (startRun s) 3 ≡ true
+start-le s =
+    pick-elim (λ (r : ℕ). leb r 3 ≡ true) (eqb s 1) (λ e. refl) (λ e. pick-elim (λ (r : ℕ). leb r 3 ≡ true) (eqb s 2) (λ f. refl) (λ f. refl))
+
+-- the fresh drive is well formed
+pub wf-fresh : wellFormed freshDrive ≡ true
+unfolding wellFormed absentZero runFits allIn
+wf-fresh = refl
+
+module _ (d : Drive) (w : wellFormed d ≡ true) where
+  -- K is at least 1
+  k-pos : 1 ≤ runTicks (rate (d .params))
+  k-pos = run-ticks-pos _ (wf-ranges d w .rate-least)
+
+  -- step 1 of a tick, and step 3
+  wf-aged : wellFormed (aged d) ≡ true
+  unfolding aged
+  wf-aged = wf-counts d w _ _ (off-pick (d .bus) _ _ (parts d w .age))
+
+  wf-ran-down : wellFormed (ranDown d) ≡ true
+  unfolding ranDown
+  wf-ran-down = wf-run d w _ _ (run-down _ _ _ (forbidsRun (d .fault) (d .forcing)) (parts d w .run))
+
+  -- kind 3
+  pub wf-commanded : (b c : ℕ) → wellFormed (commanded d b c) ≡ true
+  unfolding commanded
+  wf-commanded b c =
+      pick-elim (λ (x : Drive). wellFormed x ≡ true) (eqb c 0)
+      (λ e. wf-setpoint d w _)
+      (λ e. wf-tool d w (eqb c 1) _ (off-pick (eqb c 1) _ 0 (or-true (eqb c 1))))
+
+  -- kind 6, where nothing forbids a run
+  pub wf-calibrated : forbidsRun (d .fault) (d .forcing) ≡ false → wellFormed (calibrated d) ≡ true
+  unfolding calibrated
+  wf-calibrated h = wf-run d w _ _ (run-start 1 _ (forbidsRun (d .fault) (d .forcing)) refl k-pos h)
+
+  -- kind 9
+  pub wf-restarted : wellFormed (restarted d) ≡ true
+  unfolding restarted
+  wf-restarted = wf-run (cleared d) (wf-cleared d w) _ _ (run-start _ _ false (start-le (startSynchronization (d .params))) k-pos refl)
+
+  -- kind 8, where the value is in the table, Low would not exceed High, and Rate is not written during a run
+  pub wf-write : (a v : ℕ) → takes a v ≡ true
+      → ((eqb a 204 && ltb (high (d .params)) v) || (eqb a 205 && ltb v (low (d .params)))) ≡ false
+      → eqb a 203 && running (d .run) ≡ false → wellFormed (withParam d (placeOf a) v) ≡ true
+  unfolding placeFrom
+  wf-write a v t c r =
+      let p = parts d w in
+      let k = and-left (known a) _ t in
+      let after = param-after (d .params) a v (all-length rows (d .params) (p .params)) k in
+      whole (withParam d (placeOf a) v) (all-set rows (d .params) (placeOf a) v (p .params) (and-right (known a) _ t))
+      (rw (after 10 204 refl refl, after 11 205 refl refl) (order-kept (eqb a 204) (eqb a 205) v _ _ (p .order) c)) (p .forcing)
+      (rw (after 9 203 refl refl) (run-rate (eqb a 203) _ _ v _ (forbidsRun (d .fault) (d .forcing)) r (p .run)))
+      (p .hand) (p .tool) (p .setpoint) (p .age) (p .lastpos) (p .laststatus)
+
+-- step 4 of a tick, due or not
+wf-tick-with : (b : Bool) (a : Advanced) → wellFormed (a .drive) ≡ true → wellFormed (tickWith b a .drive) ≡ true
+unfolding tickWith
+wf-tick-with true a w = wf-report (a .drive) w (statusOf (a .drive))
+wf-tick-with false a w = w
+
+-- steps 1 to 3 of a tick
+pub wf-advance : (d : Drive) → wellFormed d ≡ true → wellFormed (advance d .drive) ≡ true
+unfolding advance moved
+wf-advance d w = wf-ran-down _ (wf-position (aged d) (wf-aged d w) _)
+
+-- kind 1
+pub wf-tick : (d : Drive) → wellFormed d ≡ true → wellFormed (ticked d .drive) ≡ true
+unfolding ticked
+wf-tick d w = wf-tick-with _ (advance d) (wf-advance d w)
+
+-- What an event that is not refused has passed.
+
+-- of 4 to 8: its kind is one of the eleven and `a` a value named for it
+pub data-passed : (e : Event) → dataRefusal e ≡ 0 → (badKind (e .kind) ≡ false) × (badA (e .kind) (e .a) ≡ false)
+unfolding dataRefusal
+data-passed e h =
+    let s = passed (badKind (e .kind)) 4 _ h (omega arith) in
+    let t = passed (unusedSet e) 5 _ (s .1) (omega arith) in
+    (s .0, passed (badA (e .kind) (e .a)) 6 _ (t .1) (omega arith) .0)
+
+-- of 9 to 13, by Low, High, whether a run is on and whether one is forbidden
+pub record Passed (e : Event) (low high : ℕ) (running forbidden : Bool) : Type 0 where
+  pub range : outsideTable e ≡ false
+  pub order : lowAboveHigh e low high ≡ false
+  pub rate : rateInRun e running ≡ false
+  pub run : runForbidden e forbidden ≡ false
+
+-- an event that none of 9 to 13 fits has passed each
+pub state-passed : (e : Event) (mode low high : ℕ) (running forbidden : Bool) → stateRefusal e mode low high running forbidden ≡ 0
+    → Passed e low high running forbidden
+unfolding stateRefusal
+state-passed e mode low high running forbidden h =
+    let s = passed (wrongProperty e mode) 9 _ h (omega arith) in
+    let t = passed (outsideTable e) 10 _ (s .1) (omega arith) in
+    let u = passed (lowAboveHigh e low high) 11 _ (t .1) (omega arith) in
+    let v = passed (rateInRun e running) 12 _ (u .1) (omega arith) in
+    record { range = t .0; order = u .0; rate = v .0; run = passed (runForbidden e forbidden) 13 _ (v .1) (omega arith) .0 }
+
+-- An accepted event keeps a record well formed.
+pub wf-applied : (d : Drive) (e : Event) → wellFormed d ≡ true → dataRefusal e ≡ 0
+    → stateRefusal e (damperMode (d .params)) (low (d .params)) (high (d .params)) (running (d .run)) (forbidsRun (d .fault) (d .forcing)) ≡ 0
+    → wellFormed (applied d e .drive) ≡ true
+unfolding applied
+wf-applied d e w h r =
+    by-kind Kept
+    (λ a b c x y. wf-tick d w)
+    (λ a b c x y. wf-setpoint d w a)
+    (λ a b c x y. wf-commanded d w b c)
+    (λ a b c x y. wf-interlocks d w _ a (le-leb a 3 (ltb-false 3 a (or-left _ _ (or-left _ _ x)))))
+    (λ a b c x y. wf-hand d w (eqb a 1) _ (off-pick (eqb a 1) b 0 (or-true (eqb a 1))))
+    (λ a b c x y. wf-calibrated d w (y .run))
+    (λ a b c x y. wf-interlocks d w (eqb a 1) _ (parts d w .forcing))
+    (λ a b c x y. wf-write d w a _ (not-false _ (y .range)) (y .order) (y .rate))
+    (λ a b c x y. wf-restarted d w)
+    (λ a b c x y. w)
+    (λ a b c x y. w)
+    (e .kind) (data-passed e h .0) (e .a) (e .b) (e .c) (data-passed e h .1) (state-passed e _ _ _ _ _ r)
+  where
+    Kept : ℕ → Type 0
+    Kept k = (a b c : ℕ) → badA k a ≡ false
+        → Passed (event k a b c) (low (d .params)) (high (d .params)) (running (d .run)) (forbidsRun (d .fault) (d .forcing))
+        → wellFormed (applied d (event k a b c) .drive) ≡ true
+
+-- bytes that none of 2 to 13 fits pass 2 to 8 and 9 to 13
+pub refusal-passed : (s : List ℕ) (mode low high : ℕ) (running forbidden : Bool) → refusal s mode low high running forbidden ≡ 0
+    → (recordRefusal s ≡ 0) × (stateRefusal (eventIn s) mode low high running forbidden ≡ 0)
+unfolding refusal
+refusal-passed s mode low high running forbidden = go (eqb (recordRefusal s) 0) refl
+  where
+    go : (b : Bool) → eqb (recordRefusal s) 0 ≡ b → pick b (stateRefusal (eventIn s) mode low high running forbidden) (recordRefusal s) ≡ 0
+        → (recordRefusal s ≡ 0) × (stateRefusal (eventIn s) mode low high running forbidden ≡ 0)
+    go true e h = (eqb-true _ 0 e, h)
+    go false e h = absurd (eqb-false _ 0 e h)
+
+-- bytes that none of 2 to 8 fits hold an event that passes 4 to 8
+pub record-passed : (s : List ℕ) → recordRefusal s ≡ 0 → dataRefusal (eventIn s) ≡ 0
+unfolding recordRefusal
+record-passed s h = passed (badMark s) 3 _ (passed (not (eqb (length s) 6)) 2 _ h (omega arith) .1) (omega arith) .1
+
+-- Every record of bytes, accepted or refused, leaves a well-formed drive well formed.
+pub wf-step : (d : Drive) (s : List ℕ) → wellFormed d ≡ true → wellFormed (stepOf d s .drive) ≡ true
+unfolding stepOf refusalOf
+wf-step d s w =
+    pick-elim (λ (o : Outcome). wellFormed (o .drive) ≡ true) (eqb (refusalOf d s) 0)
+    (λ e.
+    let t = refusal-passed s _ _ _ _ _ (rw w at (eqb-true (refusalOf d s) 0 e)) in
+    wf-applied d (eventIn s) w (record-passed s (t .0)) (t .1))
+    (λ e. w)

@@ -1,0 +1,1 @@
+// No code: specs/ proves what each event does to each field of a record, and that every event keeps a record well formed.
