@@ -1,10 +1,21 @@
--- What well-formedness gives.
+-- What well-formedness gives, and what an event has passed that none of 1 to 13 fits.
 use mathlib.Core.Path.{_≡_, refl, sym, _∙_}
 use mathlib.Core.Bool.{Bool, true, false, not, _&&_, and-eq-true-iff}
-use Rattle.table.specs.Table.{rows, allIn}
+use mathlib.Core.List.{List}
+use Prim.Native.Nat.{ℕ}
+use native.Mathlib.Omega.{arith}
+use lib.ListN.{length}
+use Rattle.numbers.specs.Numbers.{pick}
+use Rattle.table.specs.Table.{rows, allIn, damperMode, low, high}
+use Rattle.event.specs.Event.{eventIn, dataRefusal}
+use Rattle.event.specs.Laws.{record-passed}
+use Rattle.rules.specs.Rank.{running, forbidsRun}
+use Rattle.rules.specs.Refusal.{refusal}
+use Rattle.rules.specs.RefusalLaws.{refusal-passed}
 use Rattle.table.specs.Laws.{Ranges, ranges}
 use Rattle.damper.specs.declared.Drive.{Drive}
 use Rattle.damper.specs.WellFormed.{wellFormed}
+use Rattle.damper.specs.Step.{refusalOf}
 
 pub wf-in : (d : Drive) → wellFormed d ≡ true → allIn rows (d .params) ≡ true
 unfolding wellFormed
@@ -12,3 +23,13 @@ wf-in d h = (simp and-eq-true-iff at h) .0
 
 pub wf-ranges : (d : Drive) → wellFormed d ≡ true → Ranges (d .params)
 wf-ranges d h = ranges _ (wf-in d h)
+
+pub refusal-none : (d : Drive) (s : List ℕ) → refusalOf d s ≡ 0
+    → (wellFormed d ≡ true) × (length s ≡ 6) × (dataRefusal (eventIn s) ≡ 0)
+unfolding refusalOf
+refusal-none d s h = go (wellFormed d) refl h
+  where
+    go : (b : Bool) → wellFormed d ≡ b → pick b (refusal s (damperMode (d .params)) (low (d .params)) (high (d .params)) (running (d .run)) (forbidsRun (d .fault) (d .forcing))) 1 ≡ 0
+        → (wellFormed d ≡ true) × (length s ≡ 6) × (dataRefusal (eventIn s) ≡ 0)
+    go true w q = let t = record-passed s (refusal-passed s _ _ _ _ _ q .0) in (w, t .0, t .1)
+    go false w q = absurd (omega arith)

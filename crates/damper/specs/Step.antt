@@ -1,6 +1,6 @@
 -- Document 01: what one event record does to a drive, and what it answers.
 use mathlib.Core.Bool.{Bool, true, false}
-use mathlib.Core.List.{List, [], _∷_}
+use mathlib.Core.List.{List}
 use Prim.Native.Nat.{ℕ}
 use lib.Dec.{eqb}
 use lib.ListN.{getD}
@@ -83,13 +83,3 @@ refusalOf d s =
 unfoldable pub stepOf : Drive → List ℕ → Outcome
 stepOf d s =
     pick (eqb (refusalOf d s) 0) (applied d (eventIn s)) (outcome d (No (refusalOf d s)))
-
--- "each later one to the drive that the one before left, refused or not": the drive after a list of event records, and the
--- answers to them
-unfoldable pub driveAfter : Drive → List (List ℕ) → Drive
-driveAfter d [] = d
-driveAfter d (s ∷ ss) = driveAfter (stepOf d s .drive) ss
-
-unfoldable pub answersTo : Drive → List (List ℕ) → List Answer
-answersTo d [] = []
-answersTo d (s ∷ ss) = let o = stepOf d s in o .answer ∷ answersTo (o .drive) ss

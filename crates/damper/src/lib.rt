@@ -6,6 +6,7 @@ ghost use Rattle.damper.specs.Record.{freshDrive, withCounts, withPositi
 ghost use Rattle.damper.specs.WellFormed.{runFits, absentZero, wellFormed};
 
 mod rank;
+mod step;
 mod tick;
 
 // A host in C or Rust may hold the record: every field is a number, a bool or an array of numbers, and a host that hands a

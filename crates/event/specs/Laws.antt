@@ -1,16 +1,17 @@
 -- Laws of the event record: the eleven kinds by cases, and that reading a written event gives that event.
-use mathlib.Core.Path.{_≡_, refl, sym, _∙_}
+use mathlib.Core.Path.{_≡_, refl, sym, subst, _∙_}
 use mathlib.Core.Bool.{Bool, true, false, not, _||_, or-true, false≢true}
 use mathlib.Core.List.{List, [], _∷_, _++_}
 use Prim.Native.Nat.{ℕ, zero, suc, _+_, _≤_, _<_}
 use native.Mathlib.Omega.{arith}
 use native.Mathlib.Nat.{not-suc-le-zero}
 use lib.Dec.{ltb, eqb}
-use borrow.Author.Tests.{ltb-false, lt-ltb}
+use borrow.Author.Tests.{lt-ltb, ltb-false, le-leb, eqb-true}
 use lib.ListN.{length, take, drop, set}
 use lib.Seq.{take-at}
 use Rattle.numbers.specs.Numbers.{pick}
-use Rattle.numbers.specs.Laws.{passed}
+use Rattle.numbers.specs.Laws.{passed, not-false}
+use Rattle.table.specs.Table.{known}
 use Rattle.event.specs.declared.Event.{Event}
 use Rattle.event.specs.declared.Decoded.{Decoded}
 use Rattle.event.specs.declared.Decoded.the-variants.{Accepted}
@@ -31,6 +32,49 @@ by-kind P p1 p2 p3 p4 p5 p6 p7 p8 p9 p10 p11 (suc (suc (suc (suc (suc (suc (suc 
 by-kind P p1 p2 p3 p4 p5 p6 p7 p8 p9 p10 p11 (suc (suc (suc (suc (suc (suc (suc (suc (suc (suc zero)))))))))) h = p10
 by-kind P p1 p2 p3 p4 p5 p6 p7 p8 p9 p10 p11 (suc (suc (suc (suc (suc (suc (suc (suc (suc (suc (suc zero))))))))))) h = p11
 by-kind P p1 p2 p3 p4 p5 p6 p7 p8 p9 p10 p11 (suc (suc (suc (suc (suc (suc (suc (suc (suc (suc (suc (suc n)))))))))))) h = absurd (false≢true (sym h ∙ rw (lt-ltb 11 (suc (suc (suc (suc (suc (suc (suc (suc (suc (suc (suc (suc n)))))))))))) (omega arith)) (or-true (ltb (suc (suc (suc (suc (suc (suc (suc (suc (suc (suc (suc (suc n)))))))))))) 1))))
+
+-- what kind and data bytes have passed that none of 4 to 8 fits
+pub record Admitted (e : Event) : Type 0 where
+  pub kind : E.badKind (e .kind) ≡ false
+  pub a : E.badA (e .kind) (e .a) ≡ false
+  pub percent : E.badPercent (e .kind) (e .b) (e .c) ≡ false
+
+pub admitted : (e : Event) → E.dataRefusal e ≡ 0 → Admitted e
+unfolding E.dataRefusal
+admitted e h =
+    let k = passed (E.badKind (e .kind)) 4 _ h (omega arith) in
+    let u = passed (E.unusedSet e) 5 _ (k .1) (omega arith) in
+    let a = passed (E.badA (e .kind) (e .a)) 6 _ (u .1) (omega arith) in
+    let c = passed (E.badCommand (e .kind) (e .c)) 7 _ (a .1) (omega arith) in
+    record { kind = k .0; a = a .0; percent = passed (E.badPercent (e .kind) (e .b) (e .c)) 8 _ (c .1) (omega arith) .0 }
+
+-- so a write and a read of a parameter name a number of the table, and a percent that is used is at most 100
+pub known-write : (e : Event) → E.dataRefusal e ≡ 0 → e .kind ≡ 8 → known (e .a) ≡ true
+known-write e h k = not-false (known (e .a)) (subst (λ (n : ℕ). E.badA n (e .a) ≡ false) k (admitted e h .a))
+
+pub known-read : (e : Event) → E.dataRefusal e ≡ 0 → e .kind ≡ 11 → known (e .a) ≡ true
+known-read e h k = not-false (known (e .a)) (subst (λ (n : ℕ). E.badA n (e .a) ≡ false) k (admitted e h .a))
+
+pub percent-most : (e : Event) → E.dataRefusal e ≡ 0 → e .kind ≡ 3 → e .c ≤ 1 → e .b ≤ 100
+percent-most e h k c =
+    ltb-false 100 (e .b)
+    (rw (le-leb (e .c) 1 c) at (subst (λ (n : ℕ). E.badPercent n (e .b) (e .c) ≡ false) k (admitted e h .percent)))
+
+-- a kind that is none of 1 to 10 is 11
+abbrev pub NoneOfTen : ℕ → Type 0
+NoneOfTen k = ((((((((((Unit {0} × (k ≡ 1 → ⊥)) × (k ≡ 2 → ⊥)) × (k ≡ 3 → ⊥)) × (k ≡ 4 → ⊥)) × (k ≡ 5 → ⊥)) × (k ≡ 6 → ⊥)) × (k ≡ 7 → ⊥)) × (k ≡ 8 → ⊥)) × (k ≡ 9 → ⊥)) × (k ≡ 10 → ⊥))
+
+pub kind-eleven : (e : Event) → E.dataRefusal e ≡ 0 → NoneOfTen (e .kind) → e .kind ≡ 11
+kind-eleven e h =
+    by-kind (λ (k : ℕ). NoneOfTen k → k ≡ 11) (λ n. absurd (n .0 .0 .0 .0 .0 .0 .0 .0 .0 .1 refl)) (λ n. absurd (n .0 .0 .0 .0 .0 .0 .0 .0 .1 refl)) (λ n. absurd (n .0 .0 .0 .0 .0 .0 .0 .1 refl)) (λ n. absurd (n .0 .0 .0 .0 .0 .0 .1 refl)) (λ n. absurd (n .0 .0 .0 .0 .0 .1 refl)) (λ n. absurd (n .0 .0 .0 .0 .1 refl)) (λ n. absurd (n .0 .0 .0 .1 refl)) (λ n. absurd (n .0 .0 .1 refl)) (λ n. absurd (n .0 .1 refl)) (λ n. absurd (n .1 refl)) (λ n. refl)
+    (e .kind) (admitted e h .kind)
+
+-- bytes that none of 2 to 8 fits are six and hold such an event
+pub record-passed : (s : List ℕ) → E.recordRefusal s ≡ 0 → (length s ≡ 6) × (E.dataRefusal (E.eventIn s) ≡ 0)
+unfolding E.recordRefusal
+record-passed s h =
+    let l = passed (not (eqb (length s) 6)) 2 _ h (omega arith) in
+    (eqb-true _ _ (not-false _ (l .0)), passed (E.badMark s) 3 _ (l .1) (omega arith) .1)
 
 read-bytes : (e : Event) → E.dataRefusal e ≡ 0 → E.readOf (E.bytesOf e) ≡ Accepted e
 unfolding E.readOf E.recordRefusal

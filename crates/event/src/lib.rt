@@ -1,6 +1,7 @@
 // The event record: six bytes, the mark, the kind and the data bytes a, b, c.
 ghost use mathlib.Core.Path.{_≡_};
-ghost use Rattle.event.specs.Event.{dataRefusal, readOf, writeRefusal, writtenTo, valueOf, event};
+ghost use lib.ListN.{length};
+ghost use Rattle.event.specs.Event.{event, eventIn, dataRefusal, recordRefusal, readOf, writeRefusal, writtenTo, valueOf};
 use numbers::pick8;
 
 // Document 01's eleven kinds.
@@ -76,25 +77,39 @@ fn data_refusal(e: Event) -> u8
     }
 }
 
-// The event in the bytes handed in, or the first of the refusals 2 to 8 that fits.
-pub fn read(s: &[u8]) -> Decoded
-    ensures { λ r. ⌜ r ≡ readOf (now (s .entry)) ⌝ }
+// The first of the refusals 2 to 8 that fits the bytes handed in, or 0.
+pub fn refusal(s: &[u8]) -> u8
+    ensures { λ r. ⌜ r ≡ recordRefusal (now (s .entry)) ⌝ }
 {
     if s.len() != 6 {
-        return Decoded::Refused(2);
+        return 2;
     }
     if (s[0] != 0x5A) | (s[1] != 0xC3) {
-        return Decoded::Refused(3);
+        return 3;
     }
-    let e = Event {
+    data_refusal(event_in(s))
+}
+
+// Kind and data bytes of six bytes.
+pub fn event_in(s: &[u8]) -> Event
+    requires { ⌜ length (now s) ≡ 6 ⌝ }
+    ensures { λ r. ⌜ r ≡ eventIn (now (s .entry)) ⌝ }
+{
+    Event {
         kind: s[2],
         a: s[3],
         b: s[4],
         c: s[5],
-    };
-    let n = data_refusal(e);
+    }
+}
+
+// The event in the bytes handed in, or the first of the refusals 2 to 8 that fits.
+pub fn read(s: &[u8]) -> Decoded
+    ensures { λ r. ⌜ r ≡ readOf (now (s .entry)) ⌝ }
+{
+    let n = refusal(s);
     if n == 0 {
-        Decoded::Accepted(e)
+        Decoded::Accepted(event_in(s))
     } else {
         Decoded::Refused(n)
     }

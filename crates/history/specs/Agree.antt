@@ -14,7 +14,7 @@ use Rattle.table.specs.Table.{rows, rowAt, allIn, known, timeout, minRepTime, r
 use Rattle.table.specs.Laws.{at, bounds, ranges}
 use Rattle.event.specs.declared.Event.{Event}
 use Rattle.event.specs.Event.{event, badKind, badA, dataRefusal, valueOf}
-use Rattle.event.specs.Laws.{by-kind}
+use Rattle.event.specs.Laws.{by-kind, admitted, known-write}
 use Rattle.rules.specs.Motion.{toPosition, runTicks, toward}
 use Rattle.rules.specs.MotionLaws.{run-ticks-pos}
 use Rattle.rules.specs.Rank.{running, forced, forbidsRun, busActive, activeByte, rulingRank, targets}
@@ -152,14 +152,10 @@ module _ (h : List Event) (pos : 1 ≤ runTicks (rate (R.parameters h)))
       (λ a b c. left-below (event 10 a b c) (R.latest R.isStart h) refl)
       (λ a b c. left-below (event 11 a b c) (R.latest R.isStart h) refl)
 
-known-write : (e : Event) → dataRefusal e ≡ 0 → eqb (e .kind) 8 ≡ true → known (e .a) ≡ true
-known-write e r k =
-    not-false (known (e .a)) (subst (λ (n : ℕ). badA n (e .a) ≡ false) (eqb-true (e .kind) 8 k) (K.data-passed e r .1))
-
 -- Agreement is kept by every accepted event.
 module _ (d : Drive) (h : List Event) (w : wellFormed d ≡ true) (g : Agrees d h) (e : Event) (r : dataRefusal e ≡ 0) where
   ok : badKind (e .kind) ≡ false
-  ok = F.data-kind e r
+  ok = admitted e r .kind
 
   forbidden : forbidsRun (d .fault) (d .forcing) ≡ true → (d .run ≡ 0) × (d .left ≡ 0)
   forbidden = no-run (d .run) (d .left) _ _ (K.parts d w .run)
@@ -177,7 +173,7 @@ module _ (d : Drive) (h : List Event) (w : wellFormed d ≡ true) (g : Agrees d 
   params-kept =
       F.params-after d e ok
       ∙ cases (eqb (e .kind) 8)
-      (λ k. rw (k, g .params) (sym (parameters-write e h k (known-write e r k))))
+      (λ k. rw (k, g .params) (sym (parameters-write e h k (known-write e r (eqb-true (e .kind) 8 k)))))
       (λ k. rw (k, g .params) (sym (parameters-other e h k)))
 
   run-kept : applied d e .drive .run ≡ R.runIn (e ∷ h)
@@ -220,7 +216,7 @@ module _ (d : Drive) (h : List Event) (w : wellFormed d ≡ true) (g : Agrees d 
     (r : dataRefusal e ≡ 0) (w′ : wellFormed (applied d e .drive) ≡ true) where
   bus-next : e .kind ≡ 1 → busActive (d .bus) (pick (d .bus) (next (d .age)) (d .age)) (timeout (d .params)) ≡ R.busIn (e ∷ h)
   bus-next k =
-      let o = F.data-kind e r in
+      let o = admitted e r .kind in
       let b : applied d e .drive .bus ≡ d .bus = F.bus-after d e o ∙ rw k in
       let a : applied d e .drive .age ≡ pick (d .bus) (next (d .age)) (d .age) = F.age-after d e o ∙ rw k in
       let q : applied d e .drive .params ≡ d .params = F.params-after d e o ∙ rw k in
@@ -236,5 +232,5 @@ module _ (d : Drive) (h : List Event) (w : wellFormed d ≡ true) (g : Agrees d 
   pub position-kept : applied d e .drive .position ≡ R.positionIn (e ∷ h)
   unfolding R.positionIn
   position-kept =
-      F.position-after d e (F.data-kind e r)
+      F.position-after d e (admitted e r .kind)
       ∙ cases (eqb (e .kind) 1) (λ k. rw k (move-agrees (eqb-true (e .kind) 1 k))) (λ k. rw k p)

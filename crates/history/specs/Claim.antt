@@ -120,13 +120,23 @@ Claim (m ∷ t) = Holds m t × Claim t
 abbrev pub drive : Drive → List ℕ → Outcome
 drive d s = stepOf d s
 
--- the trace of a drive `d` over a list of records, after the trace `t`: "each later one to the drive that the one before left"
-unfoldable pub traceFrom : Drive → Trace → List (List ℕ) → Trace
-traceFrom d t [] = t
-traceFrom d t (s ∷ ss) =
-    let o = drive d s in
-    traceFrom (o .drive) (record { bytes = s; answer = o .answer; position = o .drive .position } ∷ t) ss
+-- "each later one to the drive that the one before left, refused or not": what a list of records gives, in its order
+unfoldable pub outcomes : Drive → List (List ℕ) → List Outcome
+outcomes d [] = []
+outcomes d (s ∷ ss) = let o = drive d s in o ∷ outcomes (o .drive) ss
+
+-- the drive after them
+unfoldable pub driveAfter : Drive → List Outcome → Drive
+driveAfter d [] = d
+driveAfter d (o ∷ os) = driveAfter (o .drive) os
+
+-- the trace of a list of records and of what they gave, after the trace `t`
+unfoldable pub traceOn : Trace → List (List ℕ) → List Outcome → Trace
+traceOn t [] os = t
+traceOn t (s ∷ ss) [] = t
+traceOn t (s ∷ ss) (o ∷ os) =
+    traceOn (record { bytes = s; answer = o .answer; position = o .drive .position } ∷ t) ss os
 
 -- "The first event record goes to a fresh drive"
 abbrev pub traceOf : List (List ℕ) → Trace
-traceOf l = traceFrom freshDrive [] l
+traceOf l = traceOn [] l (outcomes freshDrive l)

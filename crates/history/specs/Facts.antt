@@ -12,10 +12,12 @@ use Rattle.numbers.specs.Laws.{cases, and-left, and-right, not-false}
 use Rattle.table.specs.Table.{damperMode, low, high, minRepTime, actPosCov, repPer, rate}
 use Rattle.event.specs.declared.Event.{Event}
 use Rattle.event.specs.Event.{eventIn, badMark, badKind, unusedSet, badA, badCommand, badPercent, dataRefusal, recordRefusal}
+use Rattle.event.specs.Laws.{admitted, record-passed}
 use Rattle.rules.specs.Motion.{toward}
 use Rattle.rules.specs.Rank.{running, forbidsRun}
 use Rattle.rules.specs.Report.{changed}
 use Rattle.rules.specs.Refusal.{wrongProperty, outsideTable, lowAboveHigh, rateInRun, runForbidden, stateRefusal, refusal}
+use Rattle.rules.specs.RefusalLaws.{refusal-passed}
 use Rattle.damper.specs.declared.Answer.{Answer}
 use Rattle.damper.specs.declared.Answer.the-variants.{No, Done, Par, At, Tick, Report}
 use Rattle.damper.specs.declared.Drive.{Drive}
@@ -189,13 +191,13 @@ module _ (d : Drive) (t : C.Trace) (s : List ℕ) (g : Good d t) (j : R.judgemen
   judged = rw (g .agrees .params, g .agrees .run, g .agrees .fault, g .agrees .forcing) j
 
   dr : dataRefusal e ≡ 0
-  dr = F.record-data s (F.refusal-parts s _ _ _ _ _ judged .0)
+  dr = record-passed s (refusal-passed s _ _ _ _ _ judged .0) .1
 
   ok : badKind (e .kind) ≡ false
-  ok = F.data-kind e dr
+  ok = admitted e dr .kind
 
   wf′ : wellFormed (applied d e .drive) ≡ true
-  wf′ = K.wf-applied d e (g .wf) dr (F.refusal-parts s _ _ _ _ _ judged .1)
+  wf′ = K.wf-applied d e (g .wf) dr (refusal-passed s _ _ _ _ _ judged .1)
 
   agrees′ : Agrees (applied d e .drive) (e ∷ h)
   agrees′ = agrees-applied d h (g .wf) (g .agrees) e dr

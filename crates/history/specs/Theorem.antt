@@ -130,8 +130,8 @@ module _ (d : Drive) (t : C.Trace) (s : List ℕ) (o : Outcome) (i : Inv d t) (f
         formed = f .formed;
       }
 
-claims : (l : List (List ℕ)) (d : Drive) (t : C.Trace) → Inv d t → C.Claim t → C.Claim (C.traceFrom d t l)
-unfolding C.traceFrom
+claims : (l : List (List ℕ)) (d : Drive) (t : C.Trace) → Inv d t → C.Claim t → C.Claim (C.traceOn t l (C.outcomes d l))
+unfolding C.outcomes C.traceOn
 claims [] d t i c = c
 claims (s ∷ ss) d t i c =
     let f = facts d t s (i .good) in

@@ -5,17 +5,17 @@ use mathlib.Core.List.{List}
 use Prim.Native.Nat.{ℕ, _-_}
 use native.Mathlib.Omega.{arith}
 use lib.Dec.{leb, eqb}
-use lib.ListN.{length, set}
-use borrow.Author.Tests.{eqb-true, eqb-false, ne-eqb}
+use lib.ListN.{set}
+use borrow.Author.Tests.{ne-eqb}
 use Rattle.numbers.specs.Numbers.{pick, next}
-use Rattle.numbers.specs.Laws.{cases, passed}
+use Rattle.numbers.specs.Laws.{cases}
 use Rattle.table.specs.Table.{placeOf, damperMode, startSynchronization, rate, low, high}
 use Rattle.event.specs.declared.Event.{Event}
-use Rattle.event.specs.Event.{event, eventIn, badMark, badKind, dataRefusal, recordRefusal, valueOf}
+use Rattle.event.specs.Event.{event, eventIn, badKind, valueOf}
 use Rattle.event.specs.Laws.{by-kind}
 use Rattle.rules.specs.Motion.{toPosition, toward, runTicks}
 use Rattle.rules.specs.Rank.{running, forbidsRun}
-use Rattle.rules.specs.Refusal.{stateRefusal, refusal}
+use Rattle.rules.specs.Refusal.{refusal}
 use Rattle.damper.specs.declared.Drive.{Drive}
 use Rattle.damper.specs.declared.Outcome.{Outcome}
 use Rattle.damper.specs.declared.Answer.the-variants.{No, Report}
@@ -287,20 +287,3 @@ module _ (d : Drive) where
       (forbidsRun (d .fault) (d .forcing))
   unfolding refusalOf
   refusal-wf s h = rw h
-
--- a record that none of 2 to 13 fits: none of 2 to 8 does, none of 9 to 13, none of 4 to 8, and its kind is 1 to 11
-pub refusal-parts : (s : List ℕ) (m l h : ℕ) (r f : Bool) → refusal s m l h r f ≡ 0
-    → (recordRefusal s ≡ 0) × (stateRefusal (eventIn s) m l h r f ≡ 0)
-unfolding refusal
-refusal-parts s m l h r f q =
-    cases (eqb (recordRefusal s) 0) (λ t. (eqb-true _ _ t, rw t at q)) (λ t. absurd (eqb-false _ _ t (rw t at q)))
-
-pub record-data : (s : List ℕ) → recordRefusal s ≡ 0 → dataRefusal (eventIn s) ≡ 0
-unfolding recordRefusal
-record-data s h =
-    let t = passed (not (eqb (length s) 6)) 2 (pick (badMark s) 3 (dataRefusal (eventIn s))) h (omega arith) in
-    passed (badMark s) 3 (dataRefusal (eventIn s)) (t .1) (omega arith) .1
-
-pub data-kind : (e : Event) → dataRefusal e ≡ 0 → badKind (e .kind) ≡ false
-unfolding dataRefusal
-data-kind e h = passed (badKind (e .kind)) 4 _ h (omega arith) .0

@@ -10,17 +10,18 @@ use lib.ListN.{getD, set, length}
 use lib.Seq.{getD-set-same, getD-set-other}
 use borrow.Author.Tests.{leb-true, leb-false, eqb-true, eqb-false, ltb-true, ltb-false, le-leb, eq-eqb}
 use Rattle.numbers.specs.Numbers.{pick}
-use Rattle.numbers.specs.Laws.{and-left, and-right, and-intro, not-false, pick-elim, passed}
+use Rattle.numbers.specs.Laws.{and-left, and-right, and-intro, or-left, not-false, pick-elim}
 use Rattle.table.specs.declared.Row.{Row}
 use Rattle.table.specs.Table.{rows, rowAt, allIn, placeFrom, placeOf, known, takes, damperMode, startSynchronization, rate, low, high}
 use Rattle.table.specs.Laws.{all-length, all-set}
 use Rattle.event.specs.declared.Event.{Event}
-use Rattle.event.specs.Event.{event, eventIn, badMark, badKind, unusedSet, badA, dataRefusal, recordRefusal}
-use Rattle.event.specs.Laws.{by-kind}
+use Rattle.event.specs.Event.{event, eventIn, badA, dataRefusal}
+use Rattle.event.specs.Laws.{by-kind, admitted, record-passed}
 use Rattle.rules.specs.Motion.{runTicks}
 use Rattle.rules.specs.MotionLaws.{run-ticks-pos}
 use Rattle.rules.specs.Rank.{running, forbidsRun}
-use Rattle.rules.specs.Refusal.{wrongProperty, outsideTable, lowAboveHigh, rateInRun, runForbidden, stateRefusal, refusal}
+use Rattle.rules.specs.Refusal.{outsideTable, lowAboveHigh, rateInRun, runForbidden, stateRefusal, refusal}
+use Rattle.rules.specs.RefusalLaws.{Passed, state-passed, refusal-passed}
 use Rattle.damper.specs.declared.Drive.{Drive}
 use Rattle.damper.specs.declared.Advanced.{Advanced}
 use Rattle.damper.specs.declared.Outcome.{Outcome}
@@ -29,11 +30,6 @@ use Rattle.damper.specs.WellFormed.{offZero, runFits, absentZero, wellFormed}
 use Rattle.damper.specs.Laws.{wf-ranges}
 use Rattle.damper.specs.Tick.{aged, moved, ranDown, advance, statusOf}
 use Rattle.damper.specs.Step.{tickWith, ticked, commanded, calibrated, startRun, restarted, applied, refusalOf, stepOf}
-
--- where neither of two is set, the first is not
-or-left : (a b : Bool) → a || b ≡ false → a ≡ false
-or-left true b e = e
-or-left false b e = refl
 
 -- Laws of the table: what a write of one parameter leaves at a place.
 
@@ -297,34 +293,6 @@ pub wf-tick : (d : Drive) → wellFormed d ≡ true → wellFormed (ticked d .dr
 unfolding ticked
 wf-tick d w = wf-tick-with _ (advance d) (wf-advance d w)
 
--- What an event that is not refused has passed.
-
--- of 4 to 8: its kind is one of the eleven and `a` a value named for it
-pub data-passed : (e : Event) → dataRefusal e ≡ 0 → (badKind (e .kind) ≡ false) × (badA (e .kind) (e .a) ≡ false)
-unfolding dataRefusal
-data-passed e h =
-    let s = passed (badKind (e .kind)) 4 _ h (omega arith) in
-    let t = passed (unusedSet e) 5 _ (s .1) (omega arith) in
-    (s .0, passed (badA (e .kind) (e .a)) 6 _ (t .1) (omega arith) .0)
-
--- of 9 to 13, by Low, High, whether a run is on and whether one is forbidden
-pub record Passed (e : Event) (low high : ℕ) (running forbidden : Bool) : Type 0 where
-  pub range : outsideTable e ≡ false
-  pub order : lowAboveHigh e low high ≡ false
-  pub rate : rateInRun e running ≡ false
-  pub run : runForbidden e forbidden ≡ false
-
--- an event that none of 9 to 13 fits has passed each
-pub state-passed : (e : Event) (mode low high : ℕ) (running forbidden : Bool) → stateRefusal e mode low high running forbidden ≡ 0
-    → Passed e low high running forbidden
-unfolding stateRefusal
-state-passed e mode low high running forbidden h =
-    let s = passed (wrongProperty e mode) 9 _ h (omega arith) in
-    let t = passed (outsideTable e) 10 _ (s .1) (omega arith) in
-    let u = passed (lowAboveHigh e low high) 11 _ (t .1) (omega arith) in
-    let v = passed (rateInRun e running) 12 _ (u .1) (omega arith) in
-    record { range = t .0; order = u .0; rate = v .0; run = passed (runForbidden e forbidden) 13 _ (v .1) (omega arith) .0 }
-
 -- An accepted event keeps a record well formed.
 pub wf-applied : (d : Drive) (e : Event) → wellFormed d ≡ true → dataRefusal e ≡ 0
     → stateRefusal e (damperMode (d .params)) (low (d .params)) (high (d .params)) (running (d .run)) (forbidsRun (d .fault) (d .forcing)) ≡ 0
@@ -343,28 +311,12 @@ wf-applied d e w h r =
     (λ a b c x y. wf-restarted d w)
     (λ a b c x y. w)
     (λ a b c x y. w)
-    (e .kind) (data-passed e h .0) (e .a) (e .b) (e .c) (data-passed e h .1) (state-passed e _ _ _ _ _ r)
+    (e .kind) (admitted e h .kind) (e .a) (e .b) (e .c) (admitted e h .a) (state-passed e _ _ _ _ _ r)
   where
     Kept : ℕ → Type 0
     Kept k = (a b c : ℕ) → badA k a ≡ false
         → Passed (event k a b c) (low (d .params)) (high (d .params)) (running (d .run)) (forbidsRun (d .fault) (d .forcing))
         → wellFormed (applied d (event k a b c) .drive) ≡ true
-
--- bytes that none of 2 to 13 fits pass 2 to 8 and 9 to 13
-pub refusal-passed : (s : List ℕ) (mode low high : ℕ) (running forbidden : Bool) → refusal s mode low high running forbidden ≡ 0
-    → (recordRefusal s ≡ 0) × (stateRefusal (eventIn s) mode low high running forbidden ≡ 0)
-unfolding refusal
-refusal-passed s mode low high running forbidden = go (eqb (recordRefusal s) 0) refl
-  where
-    go : (b : Bool) → eqb (recordRefusal s) 0 ≡ b → pick b (stateRefusal (eventIn s) mode low high running forbidden) (recordRefusal s) ≡ 0
-        → (recordRefusal s ≡ 0) × (stateRefusal (eventIn s) mode low high running forbidden ≡ 0)
-    go true e h = (eqb-true _ 0 e, h)
-    go false e h = absurd (eqb-false _ 0 e h)
-
--- bytes that none of 2 to 8 fits hold an event that passes 4 to 8
-pub record-passed : (s : List ℕ) → recordRefusal s ≡ 0 → dataRefusal (eventIn s) ≡ 0
-unfolding recordRefusal
-record-passed s h = passed (badMark s) 3 _ (passed (not (eqb (length s) 6)) 2 _ h (omega arith) .1) (omega arith) .1
 
 -- Every record of bytes, accepted or refused, leaves a well-formed drive well formed.
 pub wf-step : (d : Drive) (s : List ℕ) → wellFormed d ≡ true → wellFormed (stepOf d s .drive) ≡ true
@@ -373,5 +325,5 @@ wf-step d s w =
     pick-elim (λ (o : Outcome). wellFormed (o .drive) ≡ true) (eqb (refusalOf d s) 0)
     (λ e.
     let t = refusal-passed s _ _ _ _ _ (rw w at (eqb-true (refusalOf d s) 0 e)) in
-    wf-applied d (eventIn s) w (record-passed s (t .0)) (t .1))
+    wf-applied d (eventIn s) w (record-passed s (t .0) .1) (t .1))
     (λ e. w)

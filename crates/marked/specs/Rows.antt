@@ -19,7 +19,8 @@ use Rattle.damper.specs.declared.Answer.the-variants.{No, Done, Par, At, Tick, 
 use Rattle.damper.specs.Record.{freshDrive}
 use Rattle.damper.specs.WellFormed.{runFits, absentZero, wellFormed}
 use Rattle.damper.specs.Tick.{aged, targetAt, moved, ranDown, advance, dueWith}
-use Rattle.damper.specs.Step.{tickWith, ticked, commanded, calibrated, restarted, applied, refusalOf, stepOf, driveAfter, answersTo}
+use Rattle.history.specs.Claim.{outcomes, driveAfter}
+use Rattle.damper.specs.Step.{tickWith, ticked, commanded, calibrated, restarted, applied, refusalOf, stepOf}
 
 -- what a row speaks of
 pub data Seen : Type 0 where
@@ -43,7 +44,7 @@ tick = bytes 1 0 0 0
 
 -- the answers to a list of event records given to a fresh drive
 abbrev pub fromFresh : List (List ℕ) → List Answer
-fromFresh l = answersTo freshDrive l
+fromFresh l = map (λ (o : Outcome). o .answer) (outcomes freshDrive l)
 
 -- the ruling rank that a tick's answer names; 7, which is no rank, for any other answer
 abbrev pub rankIn : Answer → ℕ
@@ -55,8 +56,8 @@ rankIn (Tick p r m) = r
 rankIn (Report p r m s) = r
 
 -- position, run and ticks left
-abbrev pub runIn : Drive → List ℕ
-runIn d = d .position ∷ d .run ∷ d .left ∷ []
+abbrev pub runOf : Drive → List ℕ
+runOf d = d .position ∷ d .run ∷ d .left ∷ []
 
 abbrev pub table : List Row
 table =
@@ -83,10 +84,10 @@ table =
     -- m11 forcing 2, calibration: 13.
     ∷ row (answers (fromFresh (bytes 4 2 0 0 ∷ bytes 6 0 0 0 ∷ []))) (answers (Done ∷ No 13 ∷ []))
     -- m12 StartSynchronization 2, restart, 51 ticks: position 255, no run.
-    ∷ row (numbers (runIn (driveAfter freshDrive (bytes 8 122 0 2 ∷ bytes 9 0 0 0 ∷ replicate 51 tick)))) (numbers (255 ∷ 0 ∷ 0 ∷ []))
+    ∷ row (numbers (runOf (driveAfter freshDrive (outcomes freshDrive (bytes 8 122 0 2 ∷ bytes 9 0 0 0 ∷ replicate 51 tick))))) (numbers (255 ∷ 0 ∷ 0 ∷ []))
     ∷ []
 
 -- Each row holds.
 pub marked : map (λ (r : Row). r .got) table ≡ map (λ (r : Row). r .want) table
-unfolding allIn placeFrom dataRefusal recordRefusal toPosition runTicks toward motor rulingRank activeByte backupTarget targets status stateRefusal refusal runFits absentZero wellFormed aged targetAt moved ranDown advance dueWith tickWith ticked commanded calibrated restarted applied refusalOf stepOf driveAfter answersTo leadingZeros
+unfolding allIn placeFrom dataRefusal recordRefusal toPosition runTicks toward motor rulingRank activeByte backupTarget targets status stateRefusal refusal runFits absentZero wellFormed aged targetAt moved ranDown advance dueWith tickWith ticked commanded calibrated restarted applied refusalOf stepOf outcomes driveAfter leadingZeros
 marked = refl

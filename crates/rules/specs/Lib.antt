@@ -5,3 +5,4 @@ pub mod Rank
 pub mod RankLaws
 pub mod Report
 pub mod Refusal
+pub mod RefusalLaws
