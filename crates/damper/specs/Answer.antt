@@ -1,7 +1,7 @@
 -- Document 01, 'What the drive program prints': an answer's number and values.
 use mathlib.Core.Bool.{Bool, true, false}
 use mathlib.Core.List.{List, [], _∷_}
-use Prim.Native.Nat.{ℕ}
+use Prim.Native.Nat.{ℕ, _+_, _*_}
 use Rattle.damper.specs.declared.Answer.{Answer}
 use Rattle.damper.specs.declared.Answer.the-variants.{No, Done, Par, At, Tick, Report}
 
@@ -22,6 +22,27 @@ valuesOf (Par v) = v ∷ []
 valuesOf (At p c s) = p ∷ c ∷ s ∷ []
 valuesOf (Tick p r m) = p ∷ r ∷ m ∷ []
 valuesOf (Report p r m s) = p ∷ r ∷ m ∷ s ∷ []
+
+-- an answer as two numbers: its word, 0 `no`, 1 `ok`, 2 `par`, 3 `at`, 4 `tick` with `-`, 5 `tick` with a status, and its values,
+-- each but the first a digit of base 256 behind the one before
+abbrev pub wordOf : Answer → ℕ
+wordOf (No n) = 0
+wordOf Done = 1
+wordOf (Par v) = 2
+wordOf (At p c s) = 3
+wordOf (Tick p r m) = 4
+wordOf (Report p r m s) = 5
+
+abbrev pub packedAfter : ℕ → List ℕ → ℕ
+packedAfter n [] = n
+packedAfter n (v ∷ vs) = packedAfter (256 * n + v) vs
+
+abbrev pub packed : List ℕ → ℕ
+packed [] = 0
+packed (v ∷ vs) = packedAfter v vs
+
+abbrev pub codeOf : Answer → ℕ
+codeOf a = packed (valuesOf a)
 
 -- "a spontaneous report is any answer of the tick's form with a status"
 abbrev pub isReport : Answer → Bool

@@ -3,12 +3,72 @@ ghost use mathlib.Core.Path.{_≡_};
 ghost use Prim.Native.Nat.{_≤_};
 ghost use Rattle.table.specs.Laws.{Ranges};
 ghost use Rattle.event.specs.Event.{dataRefusal};
+ghost use Rattle.damper.specs.Answer.{wordOf, codeOf};
 ghost use Rattle.damper.specs.Step.{ticked, commanded, calibrated, restarted, applied, refusalOf, stepOf};
 use crate::Answer;
 use crate::Drive;
 use crate::Outcome;
 use event::Event;
 use numbers::pick8;
+
+impl Answer {
+    // The word of the answer's printed line as a number.
+    pub fn word(self) -> u8
+        ensures { λ r. ⌜ r ≡ wordOf self ⌝ }
+    {
+        match self {
+            Answer::No(_) => 0,
+            Answer::Done => 1,
+            Answer::Par(_) => 2,
+            Answer::At {
+                position: _,
+                percent: _,
+                status: _,
+            } => 3,
+            Answer::Tick {
+                position: _,
+                rank: _,
+                motor: _,
+            } => 4,
+            Answer::Report {
+                position: _,
+                rank: _,
+                motor: _,
+                status: _,
+            } => 5,
+        }
+    }
+
+    // The values of the answer's printed line as one number.
+    pub fn code(self) -> u32
+        ensures { λ r. ⌜ r ≡ codeOf self ⌝ }
+    {
+        match self {
+            Answer::No(n) => n as u32,
+            Answer::Done => 0,
+            Answer::Par(v) => v as u32,
+            Answer::At {
+                position,
+                percent,
+                status,
+            } => 256 * (256 * (position as u32) + (percent as u32)) + (status as u32),
+            Answer::Tick {
+                position,
+                rank,
+                motor,
+            } => 256 * (256 * (position as u32) + (rank as u32)) + (motor as u32),
+            Answer::Report {
+                position,
+                rank,
+                motor,
+                status,
+            } => {
+                256 * (256 * (256 * (position as u32) + (rank as u32)) + (motor as u32))
+                    + (status as u32)
+            }
+        }
+    }
+}
 
 impl Drive {
     // Kind 1.
