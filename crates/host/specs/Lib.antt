@@ -1,0 +1,2 @@
+-- What a host in C or Rust is handed.
+pub mod Host
