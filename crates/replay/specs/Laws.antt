@@ -1,0 +1,98 @@
+-- Laws of the records of a row of bytes, and of one turn and the end of the loop over them.
+use mathlib.Core.Path.{_≡_, refl, sym, _∙_}
+use mathlib.Core.List.{List, [], _∷_, _++_}
+use Prim.Native.Nat.{ℕ, suc, _+_, _-_, _<_, _≤_, min}
+use native.Mathlib.Omega.{arith}
+use native.Mathlib.Decide.{decLe}
+use native.Mathlib.Nat.{not-suc-le-zero, add-sub-cancel-left}
+use native.Mathlib.Numerals.{add-one}
+use lib.ListN.{length, take, drop, set, drop-of-length-le, take-append-drop, length-drop}
+use lib.Seq.{take-all, drop-length, drop-drop, take-nil, drop-cons, append-snoc, take-suc-set, drop-set-lt}
+use Rattle.damper.specs.declared.Answer.{Answer}
+use Rattle.damper.specs.declared.Drive.{Drive}
+use Rattle.damper.specs.declared.Outcome.{Outcome}
+use Rattle.damper.specs.Answer.{wordOf, codeOf}
+use Rattle.damper.specs.Step.{stepOf}
+use Rattle.history.specs.Claim.{outcomes, driveAfter}
+use Rattle.replay.specs.Replay.{recordsOf, rowAfter}
+
+-- a row that is not empty: its first six bytes, or fewer where it has fewer, and the records of the rest
+pub records-cons : (s : List ℕ) → 0 < length s → recordsOf s ≡ take 6 s ∷ recordsOf (drop 6 s)
+unfolding recordsOf
+records-cons [] h = absurd (not-suc-le-zero h)
+records-cons (a ∷ []) h = refl
+records-cons (a ∷ b ∷ []) h = refl
+records-cons (a ∷ b ∷ c ∷ []) h = refl
+records-cons (a ∷ b ∷ c ∷ d ∷ []) h = refl
+records-cons (a ∷ b ∷ c ∷ d ∷ e ∷ []) h = refl
+records-cons (a ∷ b ∷ c ∷ d ∷ e ∷ f ∷ s) h = refl
+
+-- the records left at place `at` of the bytes, of which at most `n` are carried out: none, or one and those behind it
+pub left-none : (n : ℕ) (s : List ℕ) (at : ℕ) → length s ≤ at → take n (recordsOf (drop at s)) ≡ []
+unfolding recordsOf
+left-none n s at h = rw (drop-of-length-le s h) (take-nil n)
+
+pub left-more : (room i : ℕ) (s : List ℕ) (at : ℕ) → i < room → at < length s
+    → take (room - i) (recordsOf (drop at s))
+    ≡ take (min (length s - at) 6) (drop at s) ∷ take (room - (i + 1)) (recordsOf (drop (at + min (length s - at) 6) s))
+left-more room i s at h k =
+    rw (records-cons (drop at s) (simp length-drop (omega arith)), room-more) (first (decLe (length s) (at + 6)))
+  where
+    room-more : room - i ≡ suc (room - (i + 1))
+    room-more = omega arith
+
+    first : Dec (length s ≤ at + 6)
+        → take 6 (drop at s) ∷ take (room - (i + 1)) (recordsOf (drop 6 (drop at s)))
+        ≡ take (min (length s - at) 6) (drop at s) ∷ take (room - (i + 1)) (recordsOf (drop (at + min (length s - at) 6) s))
+    first (yes e) =
+        let least : min (length s - at) 6 ≡ length s - at = omega arith in
+        let end : at + (length s - at) ≡ length s = omega arith in
+        rw (least, end, drop-drop 6 at s, drop-of-length-le s e, drop-length s, take-all 6 (drop at s) (simp length-drop (omega arith)), take-all (length s - at) (drop at s) (simp length-drop (omega arith)))
+    first (no e) =
+        let least : min (length s - at) 6 ≡ 6 = omega arith in
+        rw (least, drop-drop 6 at s)
+
+-- the rows, the drive and the count that the loop has still to give are those from the start
+pub record Same (d₀ : Drive) (l₀ : List (List ℕ)) (words₀ codes₀ : List ℕ) (i : ℕ) (d : Drive) (l : List (List ℕ)) (w c : List ℕ) : Type 0 where
+  pub drive : driveAfter d₀ (outcomes d₀ l₀) ≡ driveAfter d (outcomes d l)
+  pub count : length l₀ ≡ i + length l
+  pub words : rowAfter wordOf d₀ l₀ words₀ ≡ take i w ++ rowAfter wordOf d l (drop i w)
+  pub codes : rowAfter codeOf d₀ l₀ codes₀ ≡ take i c ++ rowAfter codeOf d l (drop i c)
+
+-- one more place of a row
+pub row-more : (number : Answer → ℕ) (d : Drive) (r : List ℕ) (l : List (List ℕ)) (row : List ℕ) (i : ℕ) → i < length row
+    → take i row ++ rowAfter number d (r ∷ l) (drop i row)
+    ≡ take (i + 1) (set row i (number (stepOf d r .answer))) ++ rowAfter number (stepOf d r .drive) l (drop (i + 1) (set row i (number (stepOf d r .answer))))
+unfolding rowAfter outcomes
+row-more number d r l row i h =
+    let k : i < suc i = omega arith in
+    rw (add-one, take-suc-set row i, drop-set-lt (suc i) row i, drop-cons row i 0) (sym (append-snoc (take i row) _ _))
+
+module _ (d₀ : Drive) (l₀ : List (List ℕ)) (words₀ codes₀ : List ℕ) where
+  pub start : Same d₀ l₀ words₀ codes₀ 0 d₀ l₀ words₀ codes₀
+  start = record { drive = refl; count = omega arith; words = refl; codes = refl }
+
+  turn-cons : (i : ℕ) (d : Drive) (r : List ℕ) (l : List (List ℕ)) (words codes : List ℕ) → i < length words → i < length codes
+      → Same d₀ l₀ words₀ codes₀ i d (r ∷ l) words codes
+      → Same d₀ l₀ words₀ codes₀ (i + 1) (stepOf d r .drive) l (set words i (wordOf (stepOf d r .answer))) (set codes i (codeOf (stepOf d r .answer)))
+  unfolding driveAfter outcomes
+  turn-cons i d r l words codes h k e = record {
+    drive = e .drive;
+    count = omega arith;
+    words = e .words ∙ row-more wordOf d r l words i h;
+    codes = e .codes ∙ row-more codeOf d r l codes i k;
+  }
+
+  -- one turn, as the code has it: `n` bytes are given to the step, whose outcome is `o`, and `w` and `v` are stored
+  pub turn : (room i : ℕ) (d : Drive) (s : List ℕ) (at : ℕ) (words codes : List ℕ) (n : ℕ) (o : Outcome) (w v : ℕ)
+      → i < room → at < length s → i < length words → i < length codes
+      → n ≡ min (length s - at) 6 → o ≡ stepOf d (take (at + n - at) (drop at s)) → w ≡ wordOf (o .answer) → v ≡ codeOf (o .answer)
+      → Same d₀ l₀ words₀ codes₀ i d (take (room - i) (recordsOf (drop at s))) words codes
+      → Same d₀ l₀ words₀ codes₀ (i + 1) (o .drive) (take (room - (i + 1)) (recordsOf (drop (at + n) s))) (set words i w) (set codes i v)
+  turn room i d s at words codes n o w v a b h k en eo ew ev e =
+      rw (ew, ev, eo, add-sub-cancel-left at n, en) (turn-cons i d _ _ words codes h k (rw (left-more room i s at a b) at e))
+
+  pub done : (i : ℕ) (d : Drive) (words codes : List ℕ) → Same d₀ l₀ words₀ codes₀ i d [] words codes
+      → (d ≡ driveAfter d₀ (outcomes d₀ l₀)) × ((i ≡ length l₀) × ((words ≡ rowAfter wordOf d₀ l₀ words₀) × (codes ≡ rowAfter codeOf d₀ l₀ codes₀)))
+  unfolding driveAfter outcomes rowAfter
+  done i d words codes e = (sym (e .drive), (omega arith, (sym (e .words ∙ take-append-drop i words), sym (e .codes ∙ take-append-drop i codes))))

@@ -1,0 +1,25 @@
+-- A drive carried over a row of bytes, and the answers as rows of numbers.
+use mathlib.Core.List.{List, [], _∷_, _++_, map}
+use Prim.Native.Nat.{ℕ, min}
+use lib.ListN.{length, take, drop}
+use Rattle.damper.specs.declared.Answer.{Answer}
+use Rattle.damper.specs.declared.Drive.{Drive}
+use Rattle.history.specs.Claim.{outcomes}
+
+-- the event records of a row of bytes: six bytes at a time, and a shorter rest
+unfoldable pub recordsOf : List ℕ → List (List ℕ)
+recordsOf [] = []
+recordsOf (a ∷ []) = (a ∷ []) ∷ []
+recordsOf (a ∷ b ∷ []) = (a ∷ b ∷ []) ∷ []
+recordsOf (a ∷ b ∷ c ∷ []) = (a ∷ b ∷ c ∷ []) ∷ []
+recordsOf (a ∷ b ∷ c ∷ d ∷ []) = (a ∷ b ∷ c ∷ d ∷ []) ∷ []
+recordsOf (a ∷ b ∷ c ∷ d ∷ e ∷ []) = (a ∷ b ∷ c ∷ d ∷ e ∷ []) ∷ []
+recordsOf (a ∷ b ∷ c ∷ d ∷ e ∷ f ∷ s) = (a ∷ b ∷ c ∷ d ∷ e ∷ f ∷ []) ∷ recordsOf s
+
+-- the records that are carried out: as many as both rows have room for
+abbrev pub carried : List ℕ → List ℕ → List ℕ → List (List ℕ)
+carried s words codes = take (min (length words) (length codes)) (recordsOf s)
+
+-- a row after the records `l` were given to the drive `d`: a number of each answer, in order, and then what the row held there
+unfoldable pub rowAfter : (Answer → ℕ) → Drive → List (List ℕ) → List ℕ → List ℕ
+rowAfter number d l row = map (λ o. number (o .answer)) (outcomes d l) ++ drop (length l) row

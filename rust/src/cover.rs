@@ -1,0 +1,90 @@
+//! What a run met. Counted on the model's side, from the record before, the answer and the record after.
+
+use crate::record::{Answer, Record};
+use crate::table::Param;
+
+const RUN_ENDS: [&str; 5] = ["its ticks passed", "fault", "forcing", "restart", "new calibration"];
+const REASONS: [&str; 4] = ["no report yet", "change of value", "status", "RepPer"];
+
+#[derive(Default)]
+pub struct Cover {
+    /// At index n, refusals by n.
+    refusals: [u64; 14],
+    /// At index r, ticks ruled by rank r.
+    ranks: [u64; 7],
+    run_ends: [u64; 5],
+    /// Setpoints made active again by a higher Timeout.
+    revived: u64,
+    /// Reports by the first reason that holds, in the order of step 4.
+    reasons: [u64; 4],
+}
+
+impl Cover {
+    pub fn refusal(&mut self, number: u8) {
+        self.refusals[number as usize] += 1;
+    }
+
+    pub fn event(&mut self, before: &Record, bytes: &[u8], answer: &Answer, after: &Record) {
+        match *answer {
+            Answer::No(number) => self.refusal(number),
+            Answer::Tick { position, rank, status, .. } => {
+                self.ranks[rank as usize] += 1;
+                if before.run != 0 && after.run == 0 {
+                    self.run_ends[0] += 1;
+                }
+                if let Some(status) = status {
+                    self.reasons[reason(before, position, status)] += 1;
+                }
+            }
+            Answer::Ok => self.accepted(before, bytes[2], after),
+            Answer::Par(_) | Answer::At { .. } => {}
+        }
+    }
+
+    fn accepted(&mut self, before: &Record, kind: u8, after: &Record) {
+        let ran = before.run != 0;
+        match kind {
+            7 if ran && after.run == 0 => self.run_ends[1] += 1,
+            4 if ran && after.run == 0 => self.run_ends[2] += 1,
+            9 if ran => self.run_ends[3] += 1,
+            6 if ran => self.run_ends[4] += 1,
+            8 if before.bus => {
+                let timeout = |r: &Record| r.params[Param::Timeout as usize];
+                if before.age > timeout(before) && after.age <= timeout(after) {
+                    self.revived += 1;
+                }
+            }
+            _ => {}
+        }
+    }
+
+    /// Every count with its name.
+    pub fn counts(&self) -> Vec<(String, u64)> {
+        let refusals = (1..14).map(|n| (format!("refusal {n}"), self.refusals[n]));
+        let ranks = (0..7).map(|r| (format!("rank {r}"), self.ranks[r]));
+        let ends = (0..5).map(|i| (format!("run ended: {}", RUN_ENDS[i]), self.run_ends[i]));
+        let revived = [("setpoint revived".to_string(), self.revived)];
+        let reasons = (0..4).map(|i| (format!("report: {}", REASONS[i]), self.reasons[i]));
+        refusals.chain(ranks).chain(ends).chain(revived).chain(reasons).collect()
+    }
+
+    /// The counts below `least`.
+    pub fn shortfalls(&self, least: u64) -> Vec<String> {
+        let counts = self.counts().into_iter();
+        counts.filter(|(_, n)| *n < least).map(|(name, n)| format!("{name}: {n}")).collect()
+    }
+}
+
+/// The first of step 4's reasons that held for a report.
+fn reason(before: &Record, position: u8, status: u8) -> usize {
+    let distance = u64::from(position.abs_diff(before.lastpos));
+    if !before.reported {
+        0
+    } else if 100 * distance >= 255 * u64::from(before.params[Param::ActPosCov as usize]) {
+        1
+    } else if status != before.laststatus {
+        2
+    } else {
+        3
+    }
+}

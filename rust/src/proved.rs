@@ -1,0 +1,135 @@
+//! The proved drive, through its C boundary: each exported function is declared here once and called
+//! through a safe function. None of them asks anything of its arguments.
+
+use crate::record::{Answer, Record};
+use crate::subject::Subject;
+use std::mem::{offset_of, size_of};
+
+#[repr(C)]
+struct Stepped {
+    drive: Record,
+    word: u8,
+    code: u32,
+}
+
+#[repr(C)]
+struct Found {
+    refusal: u8,
+    kind: u8,
+    a: u8,
+    b: u8,
+    c: u8,
+}
+
+#[repr(C)]
+struct Replayed {
+    drive: Record,
+    count: usize,
+}
+
+extern "C" {
+    fn drive_fresh() -> Record;
+    fn drive_well_formed(drive: Record) -> bool;
+    fn drive_step(drive: Record, bytes: *const u8, length: usize) -> Stepped;
+    fn event_read(bytes: *const u8, length: usize) -> Found;
+    fn event_write(buffer: *mut u8, length: usize, kind: u8, a: u8, b: u8, c: u8) -> u8;
+    fn drive_replay(
+        drive: Record,
+        bytes: *const u8,
+        length: usize,
+        words: *mut u8,
+        words_length: usize,
+        codes: *mut u32,
+        codes_length: usize,
+    ) -> Replayed;
+}
+
+// The record's layout, as the Rattle source declares it.
+const _: () = {
+    assert!(size_of::<Record>() == 44);
+    assert!(offset_of!(Record, position) == 0);
+    assert!(offset_of!(Record, params) == 2);
+    assert!(offset_of!(Record, fault) == 26);
+    assert!(offset_of!(Record, forcing) == 27);
+    assert!(offset_of!(Record, hand) == 28);
+    assert!(offset_of!(Record, handpos) == 29);
+    assert!(offset_of!(Record, tool) == 30);
+    assert!(offset_of!(Record, toolpos) == 31);
+    assert!(offset_of!(Record, bus) == 32);
+    assert!(offset_of!(Record, setpoint) == 33);
+    assert!(offset_of!(Record, age) == 34);
+    assert!(offset_of!(Record, run) == 36);
+    assert!(offset_of!(Record, left) == 37);
+    assert!(offset_of!(Record, since) == 38);
+    assert!(offset_of!(Record, reported) == 40);
+    assert!(offset_of!(Record, lastpos) == 41);
+    assert!(offset_of!(Record, laststatus) == 42);
+};
+
+/// The proved drive.
+pub struct Proved;
+
+impl Proved {
+    /// The drive after as many records as both rows have room for, their count, and each answer's word
+    /// and code in the rows.
+    pub fn replay(&self, drive: Record, bytes: &[u8], words: &mut [u8], codes: &mut [u32]) -> (Record, usize) {
+        // SAFETY: each pointer goes with the length of its slice.
+        let replayed = unsafe {
+            drive_replay(
+                drive,
+                bytes.as_ptr(),
+                bytes.len(),
+                words.as_mut_ptr(),
+                words.len(),
+                codes.as_mut_ptr(),
+                codes.len(),
+            )
+        };
+        (replayed.drive, replayed.count)
+    }
+}
+
+/// The answer that a word and a code stand for.
+pub fn answer(word: u8, code: u32) -> Answer {
+    let [first, second, third, fourth] = code.to_be_bytes();
+    match word {
+        0 => Answer::No(fourth),
+        1 => Answer::Ok,
+        2 => Answer::Par(code as u16),
+        3 => Answer::At { position: second, percent: third, status: fourth },
+        4 => Answer::Tick { position: second, rank: third, motor: fourth, status: None },
+        _ => Answer::Tick { position: first, rank: second, motor: third, status: Some(fourth) },
+    }
+}
+
+impl Subject for Proved {
+    fn fresh(&self) -> Record {
+        // SAFETY: it takes nothing.
+        unsafe { drive_fresh() }
+    }
+
+    fn step(&self, record: &Record, bytes: &[u8]) -> (Answer, Record) {
+        // SAFETY: the pointer goes with the length of its slice.
+        let stepped = unsafe { drive_step(*record, bytes.as_ptr(), bytes.len()) };
+        (answer(stepped.word, stepped.code), stepped.drive)
+    }
+
+    fn well_formed(&self, record: &Record) -> bool {
+        // SAFETY: the record passes by value.
+        unsafe { drive_well_formed(*record) }
+    }
+
+    fn read(&self, bytes: &[u8]) -> Result<(u8, u8, u8, u8), u8> {
+        // SAFETY: the pointer goes with the length of its slice.
+        let found = unsafe { event_read(bytes.as_ptr(), bytes.len()) };
+        match found.refusal {
+            0 => Ok((found.kind, found.a, found.b, found.c)),
+            number => Err(number),
+        }
+    }
+
+    fn write(&self, buffer: &mut [u8], kind: u8, a: u8, b: u8, c: u8) -> u8 {
+        // SAFETY: the pointer goes with the length of its slice.
+        unsafe { event_write(buffer.as_mut_ptr(), buffer.len(), kind, a, b, c) }
+    }
+}
