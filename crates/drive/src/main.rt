@@ -1,5 +1,5 @@
 // Document 01's program: event records from standard input, a printed line for each to standard output.
-ghost use Prim.Native.Nat.{_≤_};
+ghost use Prim.Native.Nat.{_+_, _≤_};
 ghost use lib.ListN.{length};
 use damper::Drive;
 use libc::STDIN_FILENO;
@@ -12,7 +12,7 @@ struct Printed {
     used: usize,
 }
 
-// Gives each six bytes of the input, and a shorter rest, to the drive, and prints the answers.
+// Gives each six bytes of the input, and a shorter rest, to the drive, and prints the answers. The count stops at its last number.
 fn print_answers(first: Drive, given: u64, input: &[u8], out: &mut [u8]) -> Printed
     ensures { λ r. ⌜ r .used ≤ length (now (out .exit)) ⌝ }
 {
@@ -21,16 +21,127 @@ fn print_answers(first: Drive, given: u64, input: &[u8], out: &mut [u8]) -> Prin
     let mut used: usize = 0;
     let mut at: usize = 0;
     while at < input.len() {
-        let end = if input.len() - at < 6 { input.len() } else { at + 6 };
+        let end = at + record_length(input.len() - at);
         let o = d.step(&input[at..end]);
         let next = o.drive;
         let answer = o.answer;
         d = next;
-        if count < 0xffff_ffff_ffff_ffff {
-            count += 1;
-        }
+        count = one_more(count);
         used = line::put_line(out, used, count, answer);
         at = end;
     }
-    Printed { drive: d, count: count, used: used }
+    Printed {
+        drive: d,
+        count: count,
+        used: used,
+    }
+}
+
+// How many of the bytes left are the next record's.
+fn record_length(left: usize) -> usize
+    requires { ⌜ 1 ≤ left ⌝ }
+    ensures { λ r. ⌜ (1 ≤ r) × (r ≤ left) ⌝ }
+{
+    if left < 6 { left } else { 6 }
+}
+
+fn one_more(count: u64) -> u64 {
+    if count < 0xffff_ffff_ffff_ffff {
+        count + 1
+    } else {
+        count
+    }
+}
+
+// Moves what follows the place `from` to the front: the bytes of a record that has not come whole.
+fn keep_rest(input: &mut [u8], from: usize, kept: usize)
+    requires { ⌜ from + kept ≤ length (now input) ⌝ }
+{
+    let mut i: usize = 0;
+    while i < kept {
+        input[i] = input[from + i];
+        i += 1;
+    }
+}
+
+// The program between two reads: the drive, how many records it was given, how many bytes of the next one are there, and whether
+// to go on.
+struct State {
+    drive: Drive,
+    count: u64,
+    kept: usize,
+    on: bool,
+}
+
+// How many bytes wait for the rest of their record: none where the input has ended.
+fn waiting(ended: bool, have: usize) -> usize
+    ensures { λ r. ⌜ r ≤ have ⌝ }
+{
+    if ended { 0 } else { have % 6 }
+}
+
+// How many bytes there are after a read into the part of the input from `kept` on.
+fn arrived(got: isize, input: &[u8], kept: usize) -> usize
+    requires { ⌜ kept ≤ length (now input) ⌝ }
+    ensures { λ r. ⌜ r ≤ length (now (input .entry)) ⌝ }
+{
+    kept + io::count(got, &input[kept..])
+}
+
+// Reads what has come, answers every record that is whole, and a shorter rest where the input has ended. A read or a write that
+// fails ends the program.
+fn turn(s: State, input: &mut [u8], out: &mut [u8]) -> State {
+    let kept = s.kept;
+    let before = s.drive;
+    if input.len() < kept {
+        return State {
+            drive: before,
+            count: s.count,
+            kept: 0,
+            on: false,
+        };
+    }
+    let got = libc::read(STDIN_FILENO, &mut input[kept..]);
+    if got < 0 {
+        return State {
+            drive: before,
+            count: s.count,
+            kept: 0,
+            on: false,
+        };
+    }
+    let have = arrived(got, input, kept);
+    let part = waiting(got == 0, have);
+    let whole = have - part;
+    let p = print_answers(before, s.count, &input[..whole], out);
+    let used = p.used;
+    let next = p.drive;
+    let written = io::write_all(STDOUT_FILENO, &out[..used]);
+    keep_rest(input, whole, part);
+    State {
+        drive: next,
+        count: p.count,
+        kept: part,
+        on: written & (got != 0),
+    }
+}
+
+// The output has room for the longest line of each record that the input has room for.
+fn main() {
+    let mut input = [0u8; 6144];
+    let mut out = [0u8; 65536];
+    let mut s = State {
+        drive: Drive::fresh(),
+        count: 0,
+        kept: 0,
+        on: true,
+    };
+    let mut turns = 0xffff_ffff_ffff_ffffu64;
+    while turns > 0 {
+        turns -= 1;
+        s = turn(s, &mut input, &mut out);
+        if !s.on {
+            return;
+        }
+    }
 }

@@ -48,7 +48,11 @@ pub extern "C" fn drive_step(d: Drive, s: &[u8]) -> Stepped
     let o = d.step(s);
     let next = o.drive;
     let answer = o.answer;
-    Stepped { drive: next, word: answer.word(), code: answer.code() }
+    Stepped {
+        drive: next,
+        word: answer.word(),
+        code: answer.code(),
+    }
 }
 
 #[no_mangle]
@@ -56,8 +60,20 @@ pub extern "C" fn event_read(s: &[u8]) -> Found
     ensures { λ r. ⌜ r ≡ found (readOf (now (s .entry))) ⌝ }
 {
     match event::read(s) {
-        Decoded::Accepted(e) => Found { refusal: 0, kind: e.kind, a: e.a, b: e.b, c: e.c },
-        Decoded::Refused(n) => Found { refusal: n, kind: 0, a: 0, b: 0, c: 0 },
+        Decoded::Accepted(e) => Found {
+            refusal: 0,
+            kind: e.kind,
+            a: e.a,
+            b: e.b,
+            c: e.c,
+        },
+        Decoded::Refused(n) => Found {
+            refusal: n,
+            kind: 0,
+            a: 0,
+            b: 0,
+            c: 0,
+        },
     }
 }
 

@@ -1,13 +1,12 @@
 -- Laws of the records of a row of bytes, and of one turn and the end of the loop over them.
-use mathlib.Core.Path.{_≡_, refl, sym, _∙_}
+use mathlib.Core.Path.{_≡_, refl, sym, ap, _∙_}
 use mathlib.Core.List.{List, [], _∷_, _++_}
 use Prim.Native.Nat.{ℕ, suc, _+_, _-_, _<_, _≤_, min}
 use native.Mathlib.Omega.{arith}
-use native.Mathlib.Decide.{decLe}
 use native.Mathlib.Nat.{not-suc-le-zero, add-sub-cancel-left}
 use native.Mathlib.Numerals.{add-one}
-use lib.ListN.{length, take, drop, set, drop-of-length-le, take-append-drop, length-drop}
-use lib.Seq.{take-all, drop-length, drop-drop, take-nil, drop-cons, append-snoc, take-suc-set, drop-set-lt}
+use lib.ListN.{length, take, drop, set, drop-of-length-le, take-append-drop, length-take, length-drop}
+use lib.Seq.{drop-drop, take-nil, drop-cons, append-snoc, take-at, drop-at, take-suc-set, drop-set-lt}
 use Rattle.damper.specs.declared.Answer.{Answer}
 use Rattle.damper.specs.declared.Drive.{Drive}
 use Rattle.damper.specs.declared.Outcome.{Outcome}
@@ -27,32 +26,26 @@ records-cons (a ∷ b ∷ c ∷ d ∷ []) h = refl
 records-cons (a ∷ b ∷ c ∷ d ∷ e ∷ []) h = refl
 records-cons (a ∷ b ∷ c ∷ d ∷ e ∷ f ∷ s) h = refl
 
--- the records left at place `at` of the bytes, of which at most `n` are carried out: none, or one and those behind it
+-- `n` elements or fewer, where there are fewer, said by their number
+take-count : (n m : ℕ) (l : List ℕ) → length (take n l) ≡ m → take m l ≡ take n l
+take-count n m l e = ap (take m) (sym (take-append-drop n l)) ∙ take-at (take n l) (drop n l) m e
+
+drop-count : (n m : ℕ) (l : List ℕ) → length (take n l) ≡ m → drop m l ≡ drop n l
+drop-count n m l e = ap (drop m) (sym (take-append-drop n l)) ∙ drop-at (take n l) (drop n l) m e
+
+-- the records left at place `at` of the bytes: none, or one and those behind it
 pub left-none : (n : ℕ) (s : List ℕ) (at : ℕ) → length s ≤ at → take n (recordsOf (drop at s)) ≡ []
 unfolding recordsOf
 left-none n s at h = rw (drop-of-length-le s h) (take-nil n)
 
-pub left-more : (room i : ℕ) (s : List ℕ) (at : ℕ) → i < room → at < length s
-    → take (room - i) (recordsOf (drop at s))
-    ≡ take (min (length s - at) 6) (drop at s) ∷ take (room - (i + 1)) (recordsOf (drop (at + min (length s - at) 6) s))
-left-more room i s at h k =
-    rw (records-cons (drop at s) (simp length-drop (omega arith)), room-more) (first (decLe (length s) (at + 6)))
-  where
-    room-more : room - i ≡ suc (room - (i + 1))
-    room-more = omega arith
+left-more : (room i : ℕ) (s : List ℕ) (at m : ℕ) → i < room → at < length s → m ≡ min (length s - at) 6
+    → take (room - i) (recordsOf (drop at s)) ≡ take m (drop at s) ∷ take (room - (i + 1)) (recordsOf (drop (at + m) s))
+left-more room i s at m h k e =
+    let more : room - i ≡ suc (room - (i + 1)) = omega arith in
+    let size : length (take 6 (drop at s)) ≡ m = simp (length-take, length-drop) (omega arith) in
+    rw (records-cons (drop at s) (simp length-drop (omega arith)), more, ← drop-drop m at s, take-count 6 m (drop at s) size, drop-count 6 m (drop at s) size)
 
-    first : Dec (length s ≤ at + 6)
-        → take 6 (drop at s) ∷ take (room - (i + 1)) (recordsOf (drop 6 (drop at s)))
-        ≡ take (min (length s - at) 6) (drop at s) ∷ take (room - (i + 1)) (recordsOf (drop (at + min (length s - at) 6) s))
-    first (yes e) =
-        let least : min (length s - at) 6 ≡ length s - at = omega arith in
-        let end : at + (length s - at) ≡ length s = omega arith in
-        rw (least, end, drop-drop 6 at s, drop-of-length-le s e, drop-length s, take-all 6 (drop at s) (simp length-drop (omega arith)), take-all (length s - at) (drop at s) (simp length-drop (omega arith)))
-    first (no e) =
-        let least : min (length s - at) 6 ≡ 6 = omega arith in
-        rw (least, drop-drop 6 at s)
-
--- the rows, the drive and the count that the loop has still to give are those from the start
+-- What the drive `d` makes of the records `l` left, with `i` places of the rows `w` and `c` filled, is what is asked from the start.
 pub record Same (d₀ : Drive) (l₀ : List (List ℕ)) (words₀ codes₀ : List ℕ) (i : ℕ) (d : Drive) (l : List (List ℕ)) (w c : List ℕ) : Type 0 where
   pub drive : driveAfter d₀ (outcomes d₀ l₀) ≡ driveAfter d (outcomes d l)
   pub count : length l₀ ≡ i + length l
@@ -60,7 +53,7 @@ pub record Same (d₀ : Drive) (l₀ : List (List ℕ)) (words₀ codes₀ : Lis
   pub codes : rowAfter codeOf d₀ l₀ codes₀ ≡ take i c ++ rowAfter codeOf d l (drop i c)
 
 -- one more place of a row
-pub row-more : (number : Answer → ℕ) (d : Drive) (r : List ℕ) (l : List (List ℕ)) (row : List ℕ) (i : ℕ) → i < length row
+row-more : (number : Answer → ℕ) (d : Drive) (r : List ℕ) (l : List (List ℕ)) (row : List ℕ) (i : ℕ) → i < length row
     → take i row ++ rowAfter number d (r ∷ l) (drop i row)
     ≡ take (i + 1) (set row i (number (stepOf d r .answer))) ++ rowAfter number (stepOf d r .drive) l (drop (i + 1) (set row i (number (stepOf d r .answer))))
 unfolding rowAfter outcomes
@@ -90,8 +83,9 @@ module _ (d₀ : Drive) (l₀ : List (List ℕ)) (words₀ codes₀ : List ℕ) 
       → Same d₀ l₀ words₀ codes₀ i d (take (room - i) (recordsOf (drop at s))) words codes
       → Same d₀ l₀ words₀ codes₀ (i + 1) (o .drive) (take (room - (i + 1)) (recordsOf (drop (at + n) s))) (set words i w) (set codes i v)
   turn room i d s at words codes n o w v a b h k en eo ew ev e =
-      rw (ew, ev, eo, add-sub-cancel-left at n, en) (turn-cons i d _ _ words codes h k (rw (left-more room i s at a b) at e))
+      rw (ew, ev, eo, add-sub-cancel-left at n) (turn-cons i d _ _ words codes h k (rw (left-more room i s at n a b en) at e))
 
+  -- no record is left
   pub done : (i : ℕ) (d : Drive) (words codes : List ℕ) → Same d₀ l₀ words₀ codes₀ i d [] words codes
       → (d ≡ driveAfter d₀ (outcomes d₀ l₀)) × ((i ≡ length l₀) × ((words ≡ rowAfter wordOf d₀ l₀ words₀) × (codes ≡ rowAfter codeOf d₀ l₀ codes₀)))
   unfolding driveAfter outcomes rowAfter

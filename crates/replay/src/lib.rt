@@ -1,5 +1,5 @@
-// A drive carried over a row of event records. (A crate of its own: with one call of the step in what an archive holds, the
-// compiler puts it in line and copies no drive.)
+// A drive carried over a row of event records. (A crate of its own: the compiler puts the step in line where an archive has one
+// call of it.)
 ghost use mathlib.Core.Path.{_≡_};
 ghost use Prim.Native.Nat.{min};
 ghost use lib.ListN.{length};

@@ -1,0 +1,58 @@
+use mathlib.Core.Path.{_≡_}
+use Prim.Native.Nat.{_≤_, _-_}
+use native.Mathlib.Omega.{arith}
+use borrow.Author.Needs.{needs}
+use lib.ListN.{length, length-set}
+use Rattle.drive.proofs.keep_rest.Statement.{statement}
+use Rattle.drive.proofs.keep_rest.Tie as tie
+use Rattle.drive.proofs.keep_rest.Reads as reads
+use Rattle.drive.proofs.keep_rest.Lts as lts
+
+abbrev Inv-loop : tie.InvT-loop
+Inv-loop input₀ from kept i₀ input i = (i ≤ kept) × (length input ≡ length input₀)
+
+abbrev μ-loop : tie.MeasureT-loop
+μ-loop input₀ from kept i₀ input i = kept - i
+
+loop-holds : tie.Need-loop-holds Inv-loop μ-loop
+loop-holds c = search needs
+
+add-input : tie.Need-add-input Inv-loop μ-loop
+add-input c = search needs
+
+slice-read-input : tie.Need-slice-read-input Inv-loop μ-loop
+slice-read-input c = search needs
+
+slice-write-input : tie.Need-slice-write-input Inv-loop μ-loop
+slice-write-input c = search needs
+
+add-i : tie.Need-add-i Inv-loop μ-loop
+add-i c = search needs
+
+loop-less : tie.Need-loop-less Inv-loop μ-loop
+loop-less c = search needs
+
+loop-again : tie.Need-loop-again Inv-loop μ-loop
+loop-again c = (omega arith, simp length-set (search needs))
+
+same-length : tie.Need-same-length Inv-loop μ-loop
+same-length c = search needs
+
+returns : tie.Need-returns Inv-loop μ-loop
+returns c = search needs
+
+pub keep-rest-spec : {M : Type 1} → statement M
+keep-rest-spec =
+    tie.close
+    (tie.spec
+    Inv-loop
+    μ-loop
+    loop-holds
+    add-input
+    slice-read-input
+    slice-write-input
+    add-i
+    loop-less
+    loop-again
+    same-length
+    returns)

@@ -1,0 +1,3 @@
+-- A printed line of document 01's drive program.
+pub mod Line
+pub mod Laws
