@@ -136,10 +136,6 @@ pub fn run(program: &Path) -> io::Result<bool> {
     let times = pair(n, || once(&mut Command::new(program)), || once(Command::new(&this).arg("drive")));
     std::fs::remove_file(&sample)?;
     show("program", times);
-    println!(
-        "program: Rattle {:.1}, Rust {:.1} million records a second",
-        1e3 / times.0,
-        1e3 / times.1
-    );
+    println!("program: Rattle {:.1}, Rust {:.1} million records a second", 1e3 / times.0, 1e3 / times.1);
     Ok(same)
 }

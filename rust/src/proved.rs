@@ -72,7 +72,13 @@ pub struct Proved;
 impl Proved {
     /// The drive after as many records as both rows have room for, their count, and each answer's word
     /// and code in the rows.
-    pub fn replay(&self, drive: Record, bytes: &[u8], words: &mut [u8], codes: &mut [u32]) -> (Record, usize) {
+    pub fn replay(
+        &self,
+        drive: Record,
+        bytes: &[u8],
+        words: &mut [u8],
+        codes: &mut [u32],
+    ) -> (Record, usize) {
         // SAFETY: each pointer goes with the length of its slice.
         let replayed = unsafe {
             drive_replay(

@@ -1,5 +1,5 @@
 -- Document 01, 'The drive record': when a record is well formed.
-use mathlib.Core.Bool.{Bool, true, false, not, _&&_, _||_}
+use mathlib.Core.Bool.{Bool, not, _&&_, _||_}
 use Prim.Native.Nat.{ℕ}
 use lib.Dec.{leb, eqb}
 use Rattle.numbers.specs.Numbers.{pick}

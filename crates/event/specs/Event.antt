@@ -1,5 +1,5 @@
 -- Document 01, 'Eleven kinds of event' and 'When an event is turned down' (2 to 8): the event record's six bytes.
-use mathlib.Core.Bool.{Bool, true, false, not, _&&_, _||_}
+use mathlib.Core.Bool.{Bool, not, _&&_, _||_}
 use mathlib.Core.List.{List, [], _∷_, _++_}
 use Prim.Native.Nat.{ℕ, _+_, _*_}
 use lib.Dec.{leb, ltb, eqb}

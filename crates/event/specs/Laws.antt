@@ -1,19 +1,16 @@
 -- Laws of the event record: the eleven kinds by cases, and that reading a written event gives that event.
 use mathlib.Core.Path.{_≡_, refl, sym, subst, _∙_}
-use mathlib.Core.Bool.{Bool, true, false, not, _||_, or-true, false≢true}
+use mathlib.Core.Bool.{true, false, not, or-true, false≢true}
 use mathlib.Core.List.{List, [], _∷_, _++_}
-use Prim.Native.Nat.{ℕ, zero, suc, _+_, _≤_, _<_}
+use Prim.Native.Nat.{ℕ, zero, suc, _≤_}
 use native.Mathlib.Omega.{arith}
-use native.Mathlib.Nat.{not-suc-le-zero}
 use lib.Dec.{ltb, eqb}
 use borrow.Author.Tests.{lt-ltb, ltb-false, le-leb, eqb-true}
 use lib.ListN.{length, take, drop, set}
 use lib.Seq.{take-at}
-use Rattle.numbers.specs.Numbers.{pick}
 use Rattle.numbers.specs.Laws.{passed, not-false}
 use Rattle.table.specs.Table.{known}
 use Rattle.event.specs.declared.Event.{Event}
-use Rattle.event.specs.declared.Decoded.{Decoded}
 use Rattle.event.specs.declared.Decoded.the-variants.{Accepted}
 use Rattle.event.specs.Event as E
 

@@ -1,35 +1,31 @@
 -- The record after an accepted event agrees with what is read off the list, field by field.
-use mathlib.Core.Path.{_≡_, refl, sym, ap, subst, _∙_}
+use mathlib.Core.Path.{_≡_, refl, sym, ap, _∙_}
 use mathlib.Core.Bool.{Bool, true, false, not, _&&_, _||_, and-false, or-true, false≢true}
-use mathlib.Core.List.{List, [], _∷_}
+use mathlib.Core.List.{List, _∷_}
 use Prim.Native.Nat.{ℕ, _+_, _-_, _<_, _≤_, min}
 use native.Mathlib.Omega.{arith}
 use native.Mathlib.Nat.{sub-zero}
-use lib.Dec.{leb, ltb, eqb}
-use lib.ListN.{getD}
+use lib.Dec.{leb, eqb}
 use borrow.Author.Tests.{leb-true, leb-false, le-leb, lt-leb, lt-ltb, eqb-true}
 use Rattle.numbers.specs.Numbers.{pick, next}
-use Rattle.numbers.specs.Laws.{cases, not-false, and-right}
-use Rattle.table.specs.Table.{rows, rowAt, allIn, known, timeout, minRepTime, rate, startSynchronization}
+use Rattle.numbers.specs.Laws.{cases, and-right}
+use Rattle.table.specs.Table.{rows, rowAt, allIn, timeout, rate, startSynchronization}
 use Rattle.table.specs.Laws.{at, bounds, ranges}
 use Rattle.event.specs.declared.Event.{Event}
-use Rattle.event.specs.Event.{event, badKind, badA, dataRefusal, valueOf}
+use Rattle.event.specs.Event.{event, badKind, dataRefusal}
 use Rattle.event.specs.Laws.{by-kind, admitted, known-write}
 use Rattle.rules.specs.Motion.{toPosition, runTicks, toward}
 use Rattle.rules.specs.MotionLaws.{run-ticks-pos}
-use Rattle.rules.specs.Rank.{running, forced, forbidsRun, busActive, activeByte, rulingRank, targets}
-use Rattle.rules.specs.Report.{status}
+use Rattle.rules.specs.Rank.{running, forced, forbidsRun, busActive}
 use Rattle.damper.specs.declared.Drive.{Drive}
-use Rattle.damper.specs.declared.Advanced.{Advanced}
-use Rattle.damper.specs.declared.Outcome.{Outcome}
 use Rattle.damper.specs.WellFormed.{wellFormed, runFits}
-use Rattle.damper.specs.Tick.{aged, busOn, ruling, targetAt, advance, statusOf}
+use Rattle.damper.specs.Tick.{aged, busOn, targetAt, advance, statusOf}
 use Rattle.damper.specs.Step.{applied, startRun}
 use Rattle.invariant.specs.Effects as F
 use Rattle.invariant.specs.Kept as K
 use Rattle.history.specs.Readings as R
 use Rattle.history.specs.ReadLaws.{value-cons, age-cons, parameters-other, parameters-write}
-use Rattle.history.specs.RunLaws.{leftOf, leftIn, run-below, run-below-tick, left-below, left-below-tick}
+use Rattle.history.specs.RunLaws.{leftIn, run-below, run-below-tick, left-below, left-below-tick}
 
 -- each field but position, since and the last report
 pub record Agrees (d : Drive) (h : List Event) : Type 0 where
@@ -46,12 +42,9 @@ pub record Agrees (d : Drive) (h : List Event) : Type 0 where
   pub run : d .run ≡ R.runIn h
   pub left : d .left ≡ leftIn h
 
--- the bounds of the parameters that the counts are compared with
-pub timeout-most : (p : List ℕ) → allIn rows p ≡ true → timeout p ≤ 7200
+-- the bound of the parameter that the setpoint's age is compared with
+timeout-most : (p : List ℕ) → allIn rows p ≡ true → timeout p ≤ 7200
 timeout-most p e = bounds (rowAt rows 7) (timeout p) (at rows p 7 e (omega arith)) .1
-
-pub wait-most : (p : List ℕ) → allIn rows p ≡ true → minRepTime p ≤ 3600
-wait-most p e = bounds (rowAt rows 3) (minRepTime p) (at rows p 3 e (omega arith)) .1
 
 -- a capped count and the count pass the same test against a limit below the cap
 capped : (n t : ℕ) → t < 65535 → leb (min n 65535) t ≡ leb n t

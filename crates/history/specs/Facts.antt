@@ -1,14 +1,14 @@
 -- What one record does to a drive that agrees with the list so far, refused or accepted.
 use mathlib.Core.Path.{_≡_, refl, sym, ap, _∙_}
 use mathlib.Core.Bool.{Bool, true, false, not, _&&_, _||_, false≢true}
-use mathlib.Core.List.{List, [], _∷_}
-use Prim.Native.Nat.{ℕ, _+_, _≤_, min}
+use mathlib.Core.List.{List, _∷_}
+use Prim.Native.Nat.{ℕ, _+_, _≤_}
 use native.Mathlib.Omega.{arith}
 use lib.Dec.{leb, eqb}
 use lib.ListN.{length}
 use borrow.Author.Tests.{leb-true, le-leb, eqb-true, ne-eqb}
 use Rattle.numbers.specs.Numbers.{pick, next}
-use Rattle.numbers.specs.Laws.{cases, and-left, and-right, not-false}
+use Rattle.numbers.specs.Laws.{and-left, and-right, not-false}
 use Rattle.table.specs.Table.{damperMode, low, high, minRepTime, actPosCov, repPer, rate}
 use Rattle.event.specs.declared.Event.{Event}
 use Rattle.event.specs.Event.{eventIn, badMark, badKind, unusedSet, badA, badCommand, badPercent, dataRefusal, recordRefusal}
@@ -26,7 +26,7 @@ use Rattle.damper.specs.declared.Outcome.{Outcome}
 use Rattle.damper.specs.Answer.{numberOf, isReport}
 use Rattle.damper.specs.WellFormed.{wellFormed}
 use Rattle.damper.specs.Tick.{advance, due, dueWith, statusOf}
-use Rattle.damper.specs.Step.{outcome, tickWith, ticked, applied, refusalOf, stepOf}
+use Rattle.damper.specs.Step.{outcome, tickWith, ticked, applied}
 use Rattle.invariant.specs.Effects as F
 use Rattle.invariant.specs.Kept as K
 use Rattle.history.specs.Readings as R

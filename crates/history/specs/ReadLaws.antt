@@ -1,13 +1,12 @@
 -- Each reading at one event more.
-use mathlib.Core.Path.{_≡_, refl, sym, ap, _∙_}
-use mathlib.Core.Bool.{Bool, true, false, not, _&&_, _||_}
+use mathlib.Core.Path.{_≡_, refl, _∙_}
+use mathlib.Core.Bool.{Bool, true, false, _&&_}
 use mathlib.Core.List.{List, [], _∷_}
-use Prim.Native.Nat.{ℕ, _+_, _<_}
-use lib.Dec.{ltb, eqb}
-use lib.ListN.{set, length}
+use Prim.Native.Nat.{ℕ, _+_}
+use lib.Dec.{eqb}
+use lib.ListN.{set}
 use borrow.Author.Tests.{ltb-true}
 use Rattle.numbers.specs.Numbers.{pick}
-use Rattle.numbers.specs.Laws.{cases}
 use Rattle.table.specs.declared.Row.{Row}
 use Rattle.table.specs.Table.{rows, placeFrom, placeOf, known}
 use Rattle.table.specs.Laws.{by-number}

@@ -152,8 +152,7 @@ runOf (found after x before) =
 unfoldable pub runIn : List Event → ℕ
 runIn h = runOf (latest isStart h)
 
--- "position starts at 0, a tick changes it by step 2 below with the target and Rate read here, and no other event does"; at a
--- tick `t` after the history `h` the bus counts that tick and the run does not
+-- the ruling rank at a tick `t` after the history `h`: the bus counts that tick, the run only those "before the present event"
 unfoldable pub rankAt : Event → List Event → ℕ
 rankAt t h = rulingRank (activeByte (faultIn h) (forcingIn h) (runIn h) (handIn h) (toolIn h) (busIn (t ∷ h)))
 
@@ -162,6 +161,7 @@ unfoldable pub targetFrom : ℕ → Event → List Event → ℕ
 targetFrom p t h =
     getD (targets p (forcingIn h) (runIn h) (handValue h) (toolValue h) (setpointIn h) (setpointValue h) (parameters h)) (rankAt t h) 0
 
+-- "position starts at 0, a tick changes it by step 2 below with the target and Rate read here, and no other event does"
 unfoldable pub positionIn : List Event → ℕ
 positionIn [] = 0
 positionIn (e ∷ h) =

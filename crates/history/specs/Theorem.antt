@@ -1,5 +1,5 @@
 -- Demand 3: for every list of event records, the trace of a drive that was fresh at first meets the claim.
-use mathlib.Core.Path.{_≡_, refl, sym, ap, subst, _∙_}
+use mathlib.Core.Path.{_≡_, refl, sym, ap, _∙_}
 use mathlib.Core.Bool.{Bool, true, false}
 use mathlib.Core.List.{List, [], _∷_, _++_}
 use Prim.Native.Nat.{ℕ, _+_, _≤_, min}
@@ -11,18 +11,16 @@ use Rattle.numbers.specs.Laws.{cases}
 use Rattle.table.specs.Table.{rows, rowAt, allIn, minRepTime, actPosCov}
 use Rattle.table.specs.Laws.{at, bounds}
 use Rattle.rules.specs.Report.{changed}
-use Rattle.damper.specs.declared.Answer.the-variants.{No}
 use Rattle.damper.specs.declared.Drive.{Drive}
 use Rattle.damper.specs.declared.Outcome.{Outcome}
 use Rattle.damper.specs.Record.{freshDrive}
-use Rattle.damper.specs.Step.{outcome, applied, refusalOf, stepOf}
+use Rattle.damper.specs.Step.{refusalOf, stepOf}
 use Rattle.invariant.specs.Effects as F
 use Rattle.invariant.specs.Kept as K
 use Rattle.history.specs.Readings as R
 use Rattle.history.specs.RunLaws.{leftIn}
 use Rattle.history.specs.Claim as C
-use Rattle.history.specs.Agree.{Agrees}
-use Rattle.history.specs.Facts.{Good, Facts, momentOf, lastOf, silent-in, facts-refused, facts-accepted}
+use Rattle.history.specs.Facts.{Good, Facts, momentOf, silent-in, facts-refused, facts-accepted}
 
 -- the list's own judgement is the drive's
 judged : (d : Drive) (t : C.Trace) (s : List ℕ) → Good d t → refusalOf d s ≡ R.judgement (C.accepted t) s

@@ -1,7 +1,4 @@
 -- Outcomes and decoded events as structs of numbers, since an exported struct holds no enum.
-use mathlib.Core.List.{List}
-use Prim.Native.Nat.{ℕ}
-use Rattle.event.specs.declared.Event.{Event}
 use Rattle.event.specs.declared.Decoded.the-variants.{Accepted, Refused}
 use Rattle.damper.specs.declared.Outcome.{Outcome}
 use Rattle.damper.specs.Answer.{wordOf, codeOf}

@@ -20,7 +20,7 @@ use Rattle.event.specs.Laws.{by-kind, admitted, record-passed}
 use Rattle.rules.specs.Motion.{runTicks}
 use Rattle.rules.specs.MotionLaws.{run-ticks-pos}
 use Rattle.rules.specs.Rank.{running, forbidsRun}
-use Rattle.rules.specs.Refusal.{outsideTable, lowAboveHigh, rateInRun, runForbidden, stateRefusal, refusal}
+use Rattle.rules.specs.Refusal.{stateRefusal}
 use Rattle.rules.specs.RefusalLaws.{Passed, state-passed, refusal-passed}
 use Rattle.damper.specs.declared.Drive.{Drive}
 use Rattle.damper.specs.declared.Advanced.{Advanced}

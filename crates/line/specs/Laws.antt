@@ -7,7 +7,7 @@ use native.Mathlib.Omega.{arith}
 use native.Mathlib.Nat.{pow-succ', add-assoc}
 use native.Mathlib.Numerals.{add-one}
 use lib.Dec.{leb, ltb}
-use borrow.Author.Tests.{lt-ltb, le-ltb, le-leb, ltb-true, ltb-false}
+use borrow.Author.Tests.{lt-ltb, le-ltb, ltb-true, ltb-false}
 use lib.ListN.{length, take, drop, set, length-append}
 use lib.Seq.{length-take-le, take-at, drop-at, drop-drop, set-split}
 use Rattle.numbers.specs.Numbers.{pick}
@@ -129,12 +129,6 @@ after-that {d} {e} {f} {at} {p} {q} {xs} {ys} v w h =
       place = rw (length-append xs ys) (omega (arith, v .place, w .place));
       buffer = w .buffer ∙ rw (v .buffer, v .place) (write-write d at xs ys (omega (arith, v .place)));
     }
-
--- where 64 bytes are free, the two answers of `put_line` say that the line is written
-pub line-written : {d e : List ℕ} {at end : ℕ} (count : ℕ) (a : Answer) → end ≡ L.endOf d at count a → e ≡ L.putLine d at count a
-    → at + 64 ≤ length d → L.Written d e at end (L.lineOf count a)
-unfolding L.endOf L.putLine
-line-written {d} {e} {at} {end} count a p b h = record { place = p ∙ rw (le-leb (at + 64) (length d) h); buffer = b ∙ rw (le-leb (at + 64) (length d) h) }
 
 -- a line that keeps the buffer's length ends within it
 pub end-within : (d : List ℕ) (at count : ℕ) (a : Answer) → length (L.putLine d at count a) ≡ length d → at ≤ length d → L.endOf d at count a ≤ length d

@@ -12,7 +12,6 @@ use Rattle.rules.specs.Rank.{rulingRank, activeByte, backupTarget, targets}
 use Rattle.rules.specs.Report.{status, changed}
 use Rattle.rules.specs.Refusal.{stateRefusal, refusal}
 use Rattle.damper.specs.declared.Drive.{Drive}
-use Rattle.damper.specs.declared.Advanced.{Advanced}
 use Rattle.damper.specs.declared.Outcome.{Outcome}
 use Rattle.damper.specs.declared.Answer.{Answer}
 use Rattle.damper.specs.declared.Answer.the-variants.{No, Done, Par, At, Tick, Report}

@@ -1,5 +1,4 @@
 -- Document 01: percents and positions, K, Low to High, one move and the motor.
-use mathlib.Core.Bool.{Bool, true, false}
 use Prim.Native.Nat.{ℕ, _+_, _-_, _*_, _/_, min, max}
 use lib.Dec.{ltb, eqb}
 use Rattle.numbers.specs.Numbers.{pick, distance}

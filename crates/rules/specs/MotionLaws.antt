@@ -1,13 +1,11 @@
 -- Laws of percents, of K and of one move.
-use mathlib.Core.Path.{_≡_, refl, sym, ap, _∙_}
-use mathlib.Core.Bool.{Bool, true, false}
-use Prim.Native.Nat.{ℕ, suc, _+_, _-_, _*_, _/_, _<_, _≤_, min}
+use mathlib.Core.Path.{_≡_, sym, _∙_}
+use Prim.Native.Nat.{ℕ, _+_, _-_, _*_, _<_, _≤_}
 use native.Mathlib.Omega.{arith}
 use native.Mathlib.Nat.{div-le-of-le-mul, le-div-iff-mul-le, lt-of-not-le}
 use lib.Dec.{leb, ltb}
 use borrow.Author.Tests.{ltb-true, ltb-false, le-leb, lt-leb}
-use Rattle.numbers.specs.Numbers.{pick, distance}
-use Rattle.numbers.specs.Laws.{cases, pick-elim}
+use Rattle.numbers.specs.Laws.{cases}
 use Rattle.rules.specs.Motion as M
 
 pub to-position-le : (p : ℕ) → p ≤ 100 → M.toPosition p ≤ 255
@@ -35,9 +33,3 @@ run-ticks-test rate n h =
     (λ e.
     let p : 255 + rate ≤ n * rate = ltb-false _ _ e in
     e ∙ sym (lt-leb _ _ (lt-of-not-le (λ q. let m : n * rate ≤ 255 + (rate - 1) = le-div-iff-mul-le h .0 q in absurd (omega arith)))))
-
--- a position stays one
-pub toward-le : (p t r : ℕ) → p ≤ 255 → t ≤ 255 → M.toward p t r ≤ 255
-unfolding M.toward
-toward-le p t r hp ht =
-    pick-elim (λ (x : ℕ). x ≤ 255) (ltb p t) (λ e. let q = ltb-true p t e in omega arith) (λ e. omega arith)

@@ -1,10 +1,9 @@
 -- Document 01, 'Who commands': the sources of a target, their ranks, the active byte, the ruling rank and the targets.
-use mathlib.Core.Bool.{Bool, true, false, not, _&&_, _||_}
+use mathlib.Core.Bool.{Bool, true, not, _&&_, _||_}
 use mathlib.Core.List.{List, [], _∷_, map}
 use Prim.Native.Nat.{ℕ, _+_, _-_, _*_}
 use lib.Dec.{leb, eqb}
 use lib.Count.{leadingZeros}
-use lib.ListN.{getD}
 use Rattle.numbers.specs.Numbers.{pick, bit}
 use Rattle.table.specs.Table.{backupMode, backupValue, low, high}
 use Rattle.rules.specs.Motion.{toPosition, within}

@@ -1,5 +1,5 @@
 -- Document 01, 'One tick, in order': the status byte and the change-of-value test.
-use mathlib.Core.Bool.{Bool, true, false, not, _||_}
+use mathlib.Core.Bool.{Bool, not, _||_}
 use Prim.Native.Nat.{ℕ, _+_, _*_}
 use lib.Dec.{leb}
 use Rattle.numbers.specs.Numbers.{bit, distance}

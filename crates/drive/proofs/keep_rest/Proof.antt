@@ -5,8 +5,6 @@ use borrow.Author.Needs.{needs}
 use lib.ListN.{length, length-set}
 use Rattle.drive.proofs.keep_rest.Statement.{statement}
 use Rattle.drive.proofs.keep_rest.Tie as tie
-use Rattle.drive.proofs.keep_rest.Reads as reads
-use Rattle.drive.proofs.keep_rest.Lts as lts
 
 abbrev Inv-loop : tie.InvT-loop
 Inv-loop input₀ from kept i₀ input i = (i ≤ kept) × (length input ≡ length input₀)

@@ -3,10 +3,6 @@ use borrow.Author.Needs.{needs}
 use lib.ListN.{length}
 use Rattle.drive.proofs.main.Statement.{statement}
 use Rattle.drive.proofs.main.Tie as tie
-use Rattle.drive.proofs.main.Reads as reads
-use Rattle.drive.proofs.main.Lts as lts
-use Rattle.damper.proofs.Drive.fresh.Reads as fresh-reads
-use Rattle.drive.proofs.turn.Reads as turn-reads
 
 abbrev Inv-loop : tie.InvT-loop
 Inv-loop input₀ out₀ s₀ turns₀ input out s turns = (length input ≡ 6144) × (length out ≡ 65536)

@@ -6,12 +6,6 @@ use lib.ListN.{length}
 use Rattle.line.specs.Laws.{end-within}
 use Rattle.drive.proofs.print_answers.Statement.{statement}
 use Rattle.drive.proofs.print_answers.Tie as tie
-use Rattle.drive.proofs.print_answers.Reads as reads
-use Rattle.drive.proofs.print_answers.Lts as lts
-use Rattle.damper.proofs.Drive.step.Reads as step-reads
-use Rattle.drive.proofs.one_more.Reads as one-more-reads
-use Rattle.drive.proofs.record_length.Reads as record-length-reads
-use Rattle.line.proofs.put_line.Reads as put-line-reads
 
 abbrev Inv-loop : tie.InvT-loop
 Inv-loop given input out₀ d₀ count₀ used₀ at₀ out d count used at = (at ≤ length input) × (used ≤ length out) × (length out ≡ length out₀)

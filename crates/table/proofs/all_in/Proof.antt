@@ -9,9 +9,6 @@ use Rattle.table.specs.Table.{allIn, rows}
 use Rattle.table.specs.Laws.{turn, past}
 use Rattle.table.proofs.all_in.Statement.{statement}
 use Rattle.table.proofs.all_in.Tie as tie
-use Rattle.table.proofs.all_in.Reads as reads
-use Rattle.table.proofs.all_in.Lts as lts
-use Rattle.table.proofs.in_range.Reads as in-range-reads
 
 abbrev Inv-loop : tie.InvT-loop
 Inv-loop values table ok₀ i₀ ok i =

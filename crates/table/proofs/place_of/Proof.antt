@@ -1,15 +1,13 @@
 -- The rows before `i` do not have the number, so the search from the start is the search from `i`.
 use borrow.Author.Needs.{needs}
-use mathlib.Core.Path.{_≡_, refl, sym, ap, _∙_}
+use mathlib.Core.Path.{_≡_, refl}
 use Prim.Native.Nat.{_≤_, _-_}
 use native.Mathlib.Omega.{arith}
 use lib.ListN.{drop}
-use Rattle.table.specs.Table.{placeFrom, rows, rowAt}
+use Rattle.table.specs.Table.{placeFrom, rows}
 use Rattle.table.specs.Laws.{hit, miss, none}
 use Rattle.table.proofs.place_of.Statement.{statement}
 use Rattle.table.proofs.place_of.Tie as tie
-use Rattle.table.proofs.place_of.Reads as reads
-use Rattle.table.proofs.place_of.Lts as lts
 
 abbrev Inv-loop : tie.InvT-loop
 Inv-loop n table i₀ i = (i ≤ 12) × (placeFrom rows 0 n ≡ placeFrom (drop i rows) i n)
