@@ -6,7 +6,6 @@
 //! `damper-check gen N SEED` writes N mixed records of six bytes.
 
 use damper_check::bench;
-use damper_check::gen::Gen;
 use damper_check::model::MODEL;
 use damper_check::proved::Proved;
 use damper_check::subject::Subject;
@@ -84,20 +83,7 @@ fn fill(input: &mut impl Read, bytes: &mut [u8; 6]) -> io::Result<usize> {
     Ok(filled)
 }
 
-/// The drive goes along, so that the events fit its state.
+/// Mixed records that fit the drive as it goes along.
 fn gen(n: u64, seed: u64) -> io::Result<()> {
-    let mut output = BufWriter::with_capacity(1 << 16, io::stdout().lock());
-    let mut gen = Gen::six_bytes_only(seed);
-    let mut record = MODEL.fresh();
-    let mut left = 0;
-    for _ in 0..n {
-        if left == 0 {
-            left = gen.list();
-        }
-        left -= 1;
-        let bytes = gen.event(&record);
-        record = MODEL.step(&record, bytes.as_slice()).1;
-        output.write_all(bytes.as_slice())?;
-    }
-    output.flush()
+    io::stdout().lock().write_all(&bench::records(n as usize, seed))
 }
