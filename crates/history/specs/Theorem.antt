@@ -4,7 +4,9 @@ use mathlib.Core.Bool.{Bool, true, false}
 use mathlib.Core.List.{List, [], _∷_, _++_}
 use Prim.Native.Nat.{ℕ, _+_, _≤_, min}
 use native.Mathlib.Omega.{arith}
+use native.Mathlib.Nat.{zero-add}
 use lib.Dec.{eqb}
+use lib.ListN.{length}
 use borrow.Author.Tests.{eqb-true, eqb-false}
 use Rattle.numbers.specs.Numbers.{pick, next}
 use Rattle.numbers.specs.Laws.{cases}
@@ -171,6 +173,15 @@ fresh-inv = record { good = fresh-good; most = none-most; least = none-least }
     none-least : (row old : C.Trace) → [] ≡ row ++ old → C.Quiet old row → min (C.ticksIn row old) 65535 ≤ freshDrive .since
     none-least [] old e q = omega arith
     none-least (y ∷ b) old e q = absurd (no-cons y (b ++ old) e)
+
+-- The trace leaves no record out.
+pub trace-whole : (l : List (List ℕ)) → length (C.traceOf l) ≡ length l
+unfolding C.outcomes C.traceOn
+trace-whole l = go l freshDrive [] ∙ zero-add (length l)
+  where
+    go : (l : List (List ℕ)) (d : Drive) (t : C.Trace) → length (C.traceOn t l (C.outcomes d l)) ≡ length t + length l
+    go [] d t = omega arith
+    go (s ∷ ss) d t = go ss (stepOf d s .drive) (momentOf s (stepOf d s) ∷ t) ∙ omega arith
 
 -- For every list of lists of bytes, however long each may be, the drive's trace meets the claim.
 pub demand-3 : (l : List (List ℕ)) → C.Claim (C.traceOf l)
