@@ -41,7 +41,7 @@ fn expected(input: &[u8]) -> String {
 }
 
 #[test]
-fn session() {
+fn printed_example() {
     let input =
         [0x5A, 0xC3, 2, 0x80, 0, 0, 0x5A, 0xC3, 1, 0, 0, 0, 0x5A, 0xC3, 6, 2, 0, 0, 0x5A, 0xC3, 10, 0, 0, 0];
     assert_eq!(printed(&input), "1 ok\n2 tick 5 1 1 -\n3 no 6\n4 at 5 1 0\n");

@@ -9,7 +9,7 @@ use Rattle.table.specs.Table.{placeOf, damperMode, startSynchronization, rate, 
 use Rattle.event.specs.declared.Event.{Event}
 use Rattle.event.specs.Event.{eventIn, valueOf}
 use Rattle.rules.specs.Motion.{toPosition, toPercent, runTicks}
-use Rattle.rules.specs.Rank.{running, forbidsRun}
+use Rattle.rules.specs.Rank.{running, startRun, forbidsRun}
 use Rattle.rules.specs.Refusal.{refusal}
 use Rattle.damper.specs.declared.Drive.{Drive}
 use Rattle.damper.specs.declared.Advanced.{Advanced}
@@ -46,10 +46,6 @@ commanded d b c =
 -- "Calibration sets a run of K ticks toward 0, anew if one is going."
 unfoldable pub calibrated : Drive → Drive
 calibrated d = withRun d 1 (runTicks (rate (d .params)))
-
--- the run that StartSynchronization 1 or 2 starts: sync close toward 0, sync open toward 255
-abbrev pub startRun : ℕ → ℕ
-startRun s = pick (eqb s 1) 2 (pick (eqb s 2) 3 0)
 
 -- "StartSynchronization 1 or 2 then starts a run of K ticks toward 0 or 255."
 unfoldable pub restarted : Drive → Drive

@@ -27,12 +27,10 @@ pub const READ_POSITION: u8 = 10;
 
 pub const READ_PARAMETER: u8 = 11;
 
-// The commands of kind 3, in byte c.
+// The commands of kind 3, in byte c; the third, 2, is release.
 pub const NORMAL: u8 = 0;
 
 pub const OVERRIDE: u8 = 1;
-
-pub const RELEASE: u8 = 2;
 
 pub struct Event {
     pub kind: u8,

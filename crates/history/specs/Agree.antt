@@ -16,11 +16,11 @@ use Rattle.event.specs.Event.{event, badKind, dataRefusal}
 use Rattle.event.specs.Laws.{by-kind, admitted, known-write}
 use Rattle.rules.specs.Motion.{toPosition, runTicks, toward}
 use Rattle.rules.specs.MotionLaws.{run-ticks-pos}
-use Rattle.rules.specs.Rank.{running, forced, forbidsRun, busActive}
+use Rattle.rules.specs.Rank.{running, startRun, forced, forbidsRun, busActive}
 use Rattle.damper.specs.declared.Drive.{Drive}
 use Rattle.damper.specs.WellFormed.{wellFormed, runFits}
 use Rattle.damper.specs.Tick.{aged, busOn, targetAt, advance, statusOf}
-use Rattle.damper.specs.Step.{applied, startRun}
+use Rattle.damper.specs.Step.{applied}
 use Rattle.invariant.specs.Effects as F
 use Rattle.invariant.specs.Kept as K
 use Rattle.history.specs.Readings as R

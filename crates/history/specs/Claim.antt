@@ -26,6 +26,9 @@ pub record Moment : Type 0 where
   pub answer : Answer
   pub position : ℕ
 
+abbrev pub momentOf : List ℕ → Outcome → Moment
+momentOf s o = record { bytes = s; answer = o .answer; position = o .drive .position }
+
 -- a trace, the latest record first
 abbrev pub Trace : Type 0
 Trace = List Moment
@@ -134,8 +137,7 @@ driveAfter d (o ∷ os) = driveAfter (o .drive) os
 unfoldable pub traceOn : Trace → List (List ℕ) → List Outcome → Trace
 traceOn t [] os = t
 traceOn t (s ∷ ss) [] = t
-traceOn t (s ∷ ss) (o ∷ os) =
-    traceOn (record { bytes = s; answer = o .answer; position = o .drive .position } ∷ t) ss os
+traceOn t (s ∷ ss) (o ∷ os) = traceOn (momentOf s o ∷ t) ss os
 
 -- "The first event record goes to a fresh drive"
 abbrev pub traceOf : List (List ℕ) → Trace

@@ -32,10 +32,8 @@ use Rattle.invariant.specs.Kept as K
 use Rattle.history.specs.Readings as R
 use Rattle.history.specs.ReadLaws.{parameters-other}
 use Rattle.history.specs.Claim as C
+use Rattle.history.specs.Claim.{momentOf}
 use Rattle.history.specs.Agree.{Agrees, agrees-applied, position-kept, move-agrees, status-agrees}
-
-abbrev pub momentOf : List ℕ → Outcome → C.Moment
-momentOf s o = record { bytes = s; answer = o .answer; position = o .drive .position }
 
 -- the last report that the record holds
 abbrev pub lastOf : Drive → C.Sent

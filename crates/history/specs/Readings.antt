@@ -11,7 +11,7 @@ use Rattle.table.specs.Table.{rows, damperMode, startSynchronization, timeout, 
 use Rattle.event.specs.declared.Event.{Event}
 use Rattle.event.specs.Event.{valueOf}
 use Rattle.rules.specs.Motion.{toPosition, runTicks, toward}
-use Rattle.rules.specs.Rank.{running, forced, forbidsRun, busActive, activeByte, rulingRank, targets}
+use Rattle.rules.specs.Rank.{running, startRun, forced, forbidsRun, busActive, activeByte, rulingRank, targets}
 use Rattle.rules.specs.Report.{status}
 use Rattle.rules.specs.Refusal.{refusal}
 
@@ -140,7 +140,7 @@ ended (e ∷ h) = endsRun e || ended h
 -- the run that an event starts, `q` being the parameters before it: "Calibration runs toward 0, a restart's run as
 -- StartSynchronization stood then"
 abbrev pub startedBy : Event → List ℕ → ℕ
-startedBy e q = pick (eqb (e .kind) 6) 1 (pick (eqb (startSynchronization q) 1) 2 (pick (eqb (startSynchronization q) 2) 3 0))
+startedBy e q = pick (eqb (e .kind) 6) 1 (startRun (startSynchronization q))
 
 -- "A run is active if after its latest start .. no fault 1 or forcing 2 or 3 came and fewer than K ticks passed .., K taken from
 -- the Rate at that start": the run, 0 if none is active

@@ -22,7 +22,8 @@ use Rattle.invariant.specs.Kept as K
 use Rattle.history.specs.Readings as R
 use Rattle.history.specs.RunLaws.{leftIn}
 use Rattle.history.specs.Claim as C
-use Rattle.history.specs.Facts.{Good, Facts, momentOf, silent-in, facts-refused, facts-accepted}
+use Rattle.history.specs.Claim.{momentOf}
+use Rattle.history.specs.Facts.{Good, Facts, silent-in, facts-refused, facts-accepted}
 
 -- the list's own judgement is the drive's
 judged : (d : Drive) (t : C.Trace) (s : List ℕ) → Good d t → refusalOf d s ≡ R.judgement (C.accepted t) s
@@ -174,7 +175,7 @@ fresh-inv = record { good = fresh-good; most = none-most; least = none-least }
     none-least [] old e q = omega arith
     none-least (y ∷ b) old e q = absurd (no-cons y (b ++ old) e)
 
--- The trace leaves no record out.
+-- The trace has as many records as the list.
 pub trace-whole : (l : List (List ℕ)) → length (C.traceOf l) ≡ length l
 unfolding C.outcomes C.traceOn
 trace-whole l = go l freshDrive [] ∙ zero-add (length l)

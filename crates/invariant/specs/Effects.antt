@@ -13,7 +13,7 @@ use Rattle.event.specs.declared.Event.{Event}
 use Rattle.event.specs.Event.{event, eventIn, badKind, valueOf}
 use Rattle.event.specs.Laws.{by-kind}
 use Rattle.rules.specs.Motion.{toPosition, toward, runTicks}
-use Rattle.rules.specs.Rank.{running, forbidsRun}
+use Rattle.rules.specs.Rank.{running, startRun, forbidsRun}
 use Rattle.rules.specs.Refusal.{refusal}
 use Rattle.damper.specs.declared.Drive.{Drive}
 use Rattle.damper.specs.declared.Outcome.{Outcome}
@@ -22,7 +22,7 @@ use Rattle.damper.specs.Record.{withCounts, withPosition, withRun, withSetpoint
 use Rattle.damper.specs.WellFormed.{wellFormed}
 use Rattle.damper.specs.Tick.{aged, ruling, targetAt, moved, ranDown, advance, statusOf, due}
 use Rattle.damper.specs.Answer.{isReport, numberOf}
-use Rattle.damper.specs.Step.{outcome, done, tickWith, ticked, commanded, calibrated, startRun, restarted, applied, refusalOf, stepOf}
+use Rattle.damper.specs.Step.{outcome, done, tickWith, ticked, commanded, calibrated, restarted, applied, refusalOf, stepOf}
 
 -- kind 3 with command 0, and with another
 abbrev written : Drive → ℕ → Outcome
@@ -224,30 +224,6 @@ module _ (d : Drive) where
   pub advance-params : advance d .drive .params ≡ d .params
   advance-params = ap (λ x. x .params) advance-drive
 
-  pub advance-fault : advance d .drive .fault ≡ d .fault
-  advance-fault = ap (λ x. x .fault) advance-drive
-
-  pub advance-forcing : advance d .drive .forcing ≡ d .forcing
-  advance-forcing = ap (λ x. x .forcing) advance-drive
-
-  pub advance-hand : advance d .drive .hand ≡ d .hand
-  advance-hand = ap (λ x. x .hand) advance-drive
-
-  pub advance-handpos : advance d .drive .handpos ≡ d .handpos
-  advance-handpos = ap (λ x. x .handpos) advance-drive
-
-  pub advance-tool : advance d .drive .tool ≡ d .tool
-  advance-tool = ap (λ x. x .tool) advance-drive
-
-  pub advance-toolpos : advance d .drive .toolpos ≡ d .toolpos
-  advance-toolpos = ap (λ x. x .toolpos) advance-drive
-
-  pub advance-bus : advance d .drive .bus ≡ d .bus
-  advance-bus = ap (λ x. x .bus) advance-drive
-
-  pub advance-setpoint : advance d .drive .setpoint ≡ d .setpoint
-  advance-setpoint = ap (λ x. x .setpoint) advance-drive
-
   pub advance-reported : advance d .drive .reported ≡ d .reported
   advance-reported = ap (λ x. x .reported) advance-drive
 
@@ -257,17 +233,8 @@ module _ (d : Drive) where
   pub advance-laststatus : advance d .drive .laststatus ≡ d .laststatus
   advance-laststatus = ap (λ x. x .laststatus) advance-drive
 
-  pub advance-age : advance d .drive .age ≡ pick (d .bus) (next (d .age)) (d .age)
-  advance-age = ap (λ x. x .age) advance-drive
-
   pub advance-since : advance d .drive .since ≡ next (d .since)
   advance-since = ap (λ x. x .since) advance-drive
-
-  pub advance-run : advance d .drive .run ≡ pick (leb (d .left) 1) 0 (d .run)
-  advance-run = ap (λ x. x .run) advance-drive
-
-  pub advance-left : advance d .drive .left ≡ d .left - 1
-  advance-left = ap (λ x. x .left) advance-drive
 
   pub advance-position : advance d .drive .position ≡ toward (d .position) (targetAt (aged d) (ruling (aged d))) (rate (d .params))
   advance-position = ap (λ x. x .position) advance-drive

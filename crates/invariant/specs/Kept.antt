@@ -19,7 +19,7 @@ use Rattle.event.specs.Event.{event, eventIn, badA, dataRefusal}
 use Rattle.event.specs.Laws.{by-kind, admitted, record-passed}
 use Rattle.rules.specs.Motion.{runTicks}
 use Rattle.rules.specs.MotionLaws.{run-ticks-pos}
-use Rattle.rules.specs.Rank.{running, forbidsRun}
+use Rattle.rules.specs.Rank.{running, startRun, forbidsRun}
 use Rattle.rules.specs.Refusal.{stateRefusal}
 use Rattle.rules.specs.RefusalLaws.{Passed, state-passed, refusal-passed}
 use Rattle.damper.specs.declared.Drive.{Drive}
@@ -29,7 +29,7 @@ use Rattle.damper.specs.Record.{freshDrive, withCounts, withPosition, withRun, 
 use Rattle.damper.specs.WellFormed.{offZero, runFits, absentZero, wellFormed}
 use Rattle.damper.specs.Laws.{wf-ranges}
 use Rattle.damper.specs.Tick.{aged, moved, ranDown, advance, statusOf}
-use Rattle.damper.specs.Step.{tickWith, ticked, commanded, calibrated, startRun, restarted, applied, refusalOf, stepOf}
+use Rattle.damper.specs.Step.{tickWith, ticked, commanded, calibrated, restarted, applied, refusalOf, stepOf}
 
 -- Laws of the table: what a write of one parameter leaves at a place.
 

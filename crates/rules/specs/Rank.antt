@@ -32,6 +32,10 @@ calibrating r = eqb r 1
 abbrev pub syncing : ℕ → Bool
 syncing r = eqb r 2 || eqb r 3
 
+-- the run that StartSynchronization 1 or 2 starts at a restart: sync close toward 0, sync open toward 255
+abbrev pub startRun : ℕ → ℕ
+startRun s = pick (eqb s 1) 2 (pick (eqb s 2) 3 0)
+
 -- "forcing at 2 or 3"
 abbrev pub forced : ℕ → Bool
 forced g = eqb g 2 || eqb g 3

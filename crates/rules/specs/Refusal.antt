@@ -1,4 +1,4 @@
--- Document 01, 'When an event is turned down': 9 to 13, which look at more than the event's bytes, and 2 to 13 together.
+-- Document 01, 'When an event is turned down': 9 to 13, which the reader does not check, and 2 to 13 together.
 use mathlib.Core.Bool.{Bool, not, _&&_, _||_}
 use mathlib.Core.List.{List}
 use Prim.Native.Nat.{ℕ, _+_}

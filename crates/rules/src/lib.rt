@@ -114,12 +114,11 @@ pub fn changed(cov: u16, position: u8, last: u8) -> bool
 
 // The first of the refusals 9 to 13 that fits, or 0.
 pub fn state_refusal(e: Event, mode: u16, low: u16, high: u16, running: bool, forbidden: bool) -> u8
-    requires { ⌜ mode ≤ 4 ⌝ }
     ensures { λ r. ⌜ r ≡ stateRefusal e mode low high running forbidden ⌝ }
 {
     let kind = e.kind;
     match kind {
-        event::LTE_SETPOINT => pick8((e.a as u16) != 50 + mode, 9, 0),
+        event::LTE_SETPOINT => pick8((e.a as u32) != 50 + mode as u32, 9, 0),
         event::CALIBRATION => pick8(forbidden, 13, 0),
         event::WRITE => {
             let v = event::value_of(e);

@@ -78,7 +78,7 @@ openCloseDirection p = getD p 1 0
 abbrev pub actPosCov : List ℕ → ℕ
 actPosCov p = getD p 2 0
 
--- 117, in ticks
+-- 117, in s, a tick each
 abbrev pub minRepTime : List ℕ → ℕ
 minRepTime p = getD p 3 0
 
@@ -94,11 +94,11 @@ backupValue p = getD p 5 0
 abbrev pub startSynchronization : List ℕ → ℕ
 startSynchronization p = getD p 6 0
 
--- 201, in ticks
+-- 201, in s, a tick each
 abbrev pub timeout : List ℕ → ℕ
 timeout p = getD p 7 0
 
--- 202, in ticks
+-- 202, in s, a tick each
 abbrev pub repPer : List ℕ → ℕ
 repPer p = getD p 8 0
 

@@ -38,7 +38,7 @@ pub const LOW: usize = 10;
 
 pub const HIGH: usize = 11;
 
-// 111 to 122 are the property numbers of KNX chapter 7/10/3, 201 to 205 our own. Percents in %, times in ticks, Rate in
+// 111 to 122 are the property numbers of KNX chapter 7/10/3, 201 to 205 our own. Percents in %, times in s, a tick each, Rate in
 // position units a tick, Low and High as positions.
 pub const TABLE: [Row; COUNT] = [
     Row {

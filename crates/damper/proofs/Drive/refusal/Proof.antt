@@ -3,7 +3,6 @@ use mathlib.Core.Path.{sym, _∙_}
 use borrow.Author.Tests.{not-true, not-false, eq-eqb, ne-eqb}
 use Rattle.event.specs.Laws.{record-passed}
 use Rattle.rules.specs.Refusal.{refusal}
-use Rattle.damper.specs.Laws.{wf-ranges}
 use borrow.Author.Needs.{needs}
 use Rattle.damper.proofs.Drive.refusal.Statement.{statement}
 use Rattle.damper.proofs.Drive.refusal.Tie as tie
@@ -23,8 +22,7 @@ event-in-requires : tie.Need-event-in-requires
 event-in-requires c κs = record-passed _ (sym (c .before .refusal .ensures) ∙ c .if2 .left) .0
 
 state-refusal-requires : tie.Need-state-refusal-requires
-state-refusal-requires c κs =
-    wf-ranges _ (sym (c .before .before .before .before .before .before .before .before .well-formed .ensures) ∙ not-false _ (c .before .before .before .before .before .before .before .if1 .left)) .mode
+state-refusal-requires c κs = search needs
 
 returns-3 : tie.Need-returns-3
 unfolding refusalOf refusal
