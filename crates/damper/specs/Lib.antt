@@ -2,6 +2,5 @@
 pub mod Record
 pub mod WellFormed
 pub mod Tick
-pub mod Answer
 pub mod Step
 pub mod Laws

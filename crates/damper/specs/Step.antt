@@ -8,13 +8,13 @@ use Rattle.numbers.specs.Numbers.{pick}
 use Rattle.table.specs.Table.{placeOf, damperMode, startSynchronization, rate, low, high}
 use Rattle.event.specs.declared.Event.{Event}
 use Rattle.event.specs.Event.{eventIn, valueOf}
-use Rattle.rules.specs.Motion.{toPosition, toPercent, runTicks}
+use Rattle.motion.specs.Motion.{toPosition, toPercent, runTicks}
 use Rattle.rules.specs.Rank.{running, startRun, forbidsRun}
 use Rattle.rules.specs.Refusal.{refusal}
 use Rattle.damper.specs.declared.Drive.{Drive}
 use Rattle.damper.specs.declared.Advanced.{Advanced}
-use Rattle.damper.specs.declared.Answer.{Answer}
-use Rattle.damper.specs.declared.Answer.the-variants.{No, Done, Par, At, Tick, Report}
+use Rattle.answer.specs.declared.Answer.{Answer}
+use Rattle.answer.specs.declared.Answer.the-variants.{No, Done, Par, At, Tick, Report}
 use Rattle.damper.specs.declared.Outcome.{Outcome}
 use Rattle.damper.specs.Record.{withRun, withParam, withSetpoint, withTool, withHand, withInterlocks, cleared}
 use Rattle.damper.specs.WellFormed.{wellFormed}
@@ -53,20 +53,25 @@ restarted d =
     let r = startRun (startSynchronization (d .params)) in
     withRun (cleared d) r (pick (running r) (runTicks (rate (d .params))) 0)
 
--- what each accepted event does to the record and what it answers, kinds 1 to 11 in order
+-- what an accepted event that is no tick and no read does to the record, kinds 2 to 9 in order
+unfoldable pub obeyed : Drive → Event → Drive
+obeyed d e =
+    pick (eqb (e .kind) 2) (withSetpoint d (e .a))
+    (pick (eqb (e .kind) 3) (commanded d (e .b) (e .c))
+    (pick (eqb (e .kind) 4) (withInterlocks d (d .fault) (e .a))
+    (pick (eqb (e .kind) 5) (withHand d (eqb (e .a) 1) (pick (eqb (e .a) 1) (e .b) 0))
+    (pick (eqb (e .kind) 6) (calibrated d)
+    (pick (eqb (e .kind) 7) (withInterlocks d (eqb (e .a) 1) (d .forcing))
+    (pick (eqb (e .kind) 8) (withParam d (placeOf (e .a)) (valueOf e))
+    (restarted d)))))))
+
+-- what each accepted event does to the record and what it answers: `tick P R M S`, `at P C S`, `par V`, and `ok` for kinds 2 to 9
 unfoldable pub applied : Drive → Event → Outcome
 applied d e =
     pick (eqb (e .kind) 1) (ticked d)
-    (pick (eqb (e .kind) 2) (done (withSetpoint d (e .a)))
-    (pick (eqb (e .kind) 3) (done (commanded d (e .b) (e .c)))
-    (pick (eqb (e .kind) 4) (done (withInterlocks d (d .fault) (e .a)))
-    (pick (eqb (e .kind) 5) (done (withHand d (eqb (e .a) 1) (pick (eqb (e .a) 1) (e .b) 0)))
-    (pick (eqb (e .kind) 6) (done (calibrated d))
-    (pick (eqb (e .kind) 7) (done (withInterlocks d (eqb (e .a) 1) (d .forcing)))
-    (pick (eqb (e .kind) 8) (done (withParam d (placeOf (e .a)) (valueOf e)))
-    (pick (eqb (e .kind) 9) (done (restarted d))
     (pick (eqb (e .kind) 10) (outcome d (At (d .position) (toPercent (d .position)) (statusOf d)))
-    (outcome d (Par (getD (d .params) (placeOf (e .a)) 0))))))))))))
+    (pick (eqb (e .kind) 11) (outcome d (Par (getD (d .params) (placeOf (e .a)) 0)))
+    (done (obeyed d e))))
 
 -- the first of 1 to 13 that fits, 0 if none does; 1: "The drive record is not well formed."
 unfoldable pub refusalOf : Drive → List ℕ → ℕ

@@ -5,7 +5,7 @@ use lib.Dec.{leb, eqb}
 use lib.ListN.{getD}
 use Rattle.numbers.specs.Numbers.{pick, next}
 use Rattle.table.specs.Table.{openCloseDirection, actPosCov, minRepTime, timeout, repPer, rate}
-use Rattle.rules.specs.Motion.{toward, motor}
+use Rattle.motion.specs.Motion.{toward, motor}
 use Rattle.rules.specs.Rank.{busActive, activeByte, rulingRank, targets}
 use Rattle.rules.specs.Report.{status, changed}
 use Rattle.damper.specs.declared.Drive.{Drive}

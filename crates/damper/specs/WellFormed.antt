@@ -4,7 +4,7 @@ use Prim.Native.Nat.{ℕ}
 use lib.Dec.{leb, eqb}
 use Rattle.numbers.specs.Numbers.{pick}
 use Rattle.table.specs.Table.{rows, allIn, low, high, rate}
-use Rattle.rules.specs.Motion.{runTicks}
+use Rattle.motion.specs.Motion.{runTicks}
 use Rattle.rules.specs.Rank.{running, forbidsRun}
 use Rattle.damper.specs.declared.Drive.{Drive}
 

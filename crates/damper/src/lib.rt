@@ -1,9 +1,10 @@
 // The drive record: its fields, the fresh drive, when it is well formed, and its updates.
 ghost use mathlib.Core.Path.{_≡_};
 ghost use Prim.Native.Nat.{_<_, _≤_};
-ghost use Rattle.rules.specs.Motion.{runTicks};
+ghost use Rattle.motion.specs.Motion.{runTicks};
 ghost use Rattle.damper.specs.Record.{freshDrive, withCounts, withPosition, withRun, withReport, withParam, withSetpoint, withTool, withHand, withInterlocks, cleared};
 ghost use Rattle.damper.specs.WellFormed.{runFits, absentZero, wellFormed};
+use answer::Answer;
 
 mod rank;
 mod step;
@@ -46,33 +47,6 @@ pub struct Advanced {
     pub drive: Drive,
     pub rank: u8,
     pub motor: u8,
-}
-
-// What an event is answered with.
-pub enum Answer {
-    // Refused, by this number.
-    No(u8),
-    Done,
-    // A parameter's value.
-    Par(u16),
-    At {
-        position: u8,
-        percent: u8,
-        status: u8,
-    },
-    // A tick with no report.
-    Tick {
-        position: u8,
-        rank: u8,
-        motor: u8,
-    },
-    // A tick with a report.
-    Report {
-        position: u8,
-        rank: u8,
-        motor: u8,
-        status: u8,
-    },
 }
 
 // The drive after an event, and the answer to it.

@@ -1,74 +1,17 @@
 // One event record given to a drive.
 ghost use mathlib.Core.Path.{_≡_};
 ghost use Prim.Native.Nat.{_≤_};
+ghost use mathlib.Core.Bool.{true};
+ghost use lib.ListN.{getD};
+ghost use Rattle.table.specs.Table.{known, placeOf};
 ghost use Rattle.table.specs.Laws.{Ranges};
 ghost use Rattle.event.specs.Event.{dataRefusal};
-ghost use Rattle.damper.specs.Answer.{wordOf, codeOf};
-ghost use Rattle.damper.specs.Step.{ticked, commanded, calibrated, restarted, applied, refusalOf, stepOf};
-use crate::Answer;
+ghost use Rattle.damper.specs.Step.{ticked, commanded, calibrated, restarted, obeyed, applied, refusalOf, stepOf};
 use crate::Drive;
 use crate::Outcome;
+use answer::Answer;
 use event::Event;
 use numbers::pick8;
-
-impl Answer {
-    // The word of the answer's printed line as a number.
-    pub fn word(self) -> u8
-        ensures { λ r. ⌜ r ≡ wordOf self ⌝ }
-    {
-        match self {
-            Answer::No(_) => 0,
-            Answer::Done => 1,
-            Answer::Par(_) => 2,
-            Answer::At {
-                position: _,
-                percent: _,
-                status: _,
-            } => 3,
-            Answer::Tick {
-                position: _,
-                rank: _,
-                motor: _,
-            } => 4,
-            Answer::Report {
-                position: _,
-                rank: _,
-                motor: _,
-                status: _,
-            } => 5,
-        }
-    }
-
-    // The values of the answer's printed line as one number.
-    pub fn code(self) -> u32
-        ensures { λ r. ⌜ r ≡ codeOf self ⌝ }
-    {
-        match self {
-            Answer::No(n) => n as u32,
-            Answer::Done => 0,
-            Answer::Par(v) => v as u32,
-            Answer::At {
-                position,
-                percent,
-                status,
-            } => 256 * (256 * (position as u32) + (percent as u32)) + (status as u32),
-            Answer::Tick {
-                position,
-                rank,
-                motor,
-            } => 256 * (256 * (position as u32) + (rank as u32)) + (motor as u32),
-            Answer::Report {
-                position,
-                rank,
-                motor,
-                status,
-            } => {
-                256 * (256 * (256 * (position as u32) + (rank as u32)) + (motor as u32))
-                    + (status as u32)
-            }
-        }
-    }
-}
 
 impl Drive {
     // Kind 1.
@@ -107,10 +50,10 @@ impl Drive {
         ensures { λ r. ⌜ r ≡ commanded self percent command ⌝ }
     {
         if command == event::NORMAL {
-            return self.with_setpoint(rules::to_position(percent));
+            return self.with_setpoint(motion::to_position(percent));
         }
         if command == event::OVERRIDE {
-            self.with_tool(true, rules::to_position(percent))
+            self.with_tool(true, motion::to_position(percent))
         } else {
             self.with_tool(false, 0)
         }
@@ -121,10 +64,8 @@ impl Drive {
         requires { ⌜ Ranges (self .params) ⌝ }
         ensures { λ r. ⌜ r ≡ calibrated self ⌝ }
     {
-        self.with_run(
-            rules::CALIBRATION,
-            rules::run_ticks(self.params[table::RATE]),
-        )
+        let params = self.params;
+        self.with_run(rules::CALIBRATION, motion::run_ticks(params[table::RATE]))
     }
 
     // Kind 9.
@@ -132,75 +73,68 @@ impl Drive {
         requires { ⌜ Ranges (self .params) ⌝ }
         ensures { λ r. ⌜ r ≡ restarted self ⌝ }
     {
-        let start = self.params[table::START_SYNCHRONIZATION];
-        let ticks = rules::run_ticks(self.params[table::RATE]);
-        let run = pick8(
-            start == 1,
-            rules::SYNC_CLOSE,
-            pick8(start == 2, rules::SYNC_OPEN, rules::NO_RUN),
-        );
+        let params = self.params;
+        let ticks = motion::run_ticks(params[table::RATE]);
+        let run = rules::start_run(params[table::START_SYNCHRONIZATION]);
         self.cleared()
             .with_run(run, pick8(run != rules::NO_RUN, ticks, 0))
     }
 
-    // What an accepted event does. One exit for the events that answer `ok`, so that the record is not built in each arm.
+    // Kinds 2 to 9.
+    fn obeyed(self, e: Event) -> Drive
+        requires { ⌜ Ranges (self .params) ⌝ }
+        requires { ⌜ dataRefusal e ≡ 0 ⌝ }
+        ensures { λ r. ⌜ r ≡ obeyed self e ⌝ }
+    {
+        let kind = e.kind;
+        let a = e.a;
+        match kind {
+            event::SETPOINT => self.with_setpoint(a),
+            event::LTE_SETPOINT => self.commanded(e.b, e.c),
+            event::FORCING => self.with_interlocks(self.fault, a),
+            event::HAND => self.with_hand(a == 1, pick8(a == 1, e.b, 0)),
+            event::CALIBRATION => self.calibrated(),
+            event::FAULT => self.with_interlocks(a == 1, self.forcing),
+            event::WRITE => self.with_param(table::place_of(a), event::value_of(e)),
+            _ => self.restarted(),
+        }
+    }
+
+    // Kind 11.
+    fn parameter(self, number: u8) -> u16
+        requires { ⌜ known number ≡ true ⌝ }
+        ensures { λ r. ⌜ r ≡ getD (self .params) (placeOf number) 0 ⌝ }
+    {
+        let params = self.params;
+        let place = table::place_of(number);
+        params[place]
+    }
+
+    // What an accepted event does.
     fn applied(self, e: Event) -> Outcome
         requires { ⌜ Ranges (self .params) ⌝ }
         requires { ⌜ dataRefusal e ≡ 0 ⌝ }
         ensures { λ r. ⌜ r ≡ applied self e ⌝ }
     {
-        let mut d = self;
         let kind = e.kind;
-        let a = e.a;
         match kind {
-            event::TICK => {
-                return d.tick();
-            }
-            event::SETPOINT => {
-                d = d.with_setpoint(a);
-            }
-            event::LTE_SETPOINT => {
-                d = d.commanded(e.b, e.c);
-            }
-            event::FORCING => {
-                d = d.with_interlocks(d.fault, a);
-            }
-            event::HAND => {
-                d = d.with_hand(a == 1, pick8(a == 1, e.b, 0));
-            }
-            event::CALIBRATION => {
-                d = d.calibrated();
-            }
-            event::FAULT => {
-                d = d.with_interlocks(a == 1, d.forcing);
-            }
-            event::WRITE => {
-                d = d.with_param(table::place_of(a), event::value_of(e));
-            }
-            event::RESTART => {
-                d = d.restarted();
-            }
-            event::READ_POSITION => {
-                return Outcome {
-                    drive: d,
-                    answer: Answer::At {
-                        position: d.position,
-                        percent: rules::to_percent(d.position),
-                        status: d.status(),
-                    },
-                };
-            }
-            _ => {
-                let place = table::place_of(a);
-                return Outcome {
-                    drive: d,
-                    answer: Answer::Par(d.params[place]),
-                };
-            }
-        }
-        Outcome {
-            drive: d,
-            answer: Answer::Done,
+            event::TICK => self.tick(),
+            event::READ_POSITION => Outcome {
+                drive: self,
+                answer: Answer::At {
+                    position: self.position,
+                    percent: motion::to_percent(self.position),
+                    status: self.status(),
+                },
+            },
+            event::READ_PARAMETER => Outcome {
+                drive: self,
+                answer: Answer::Par(self.parameter(e.a)),
+            },
+            _ => Outcome {
+                drive: self.obeyed(e),
+                answer: Answer::Done,
+            },
         }
     }
 
@@ -215,11 +149,12 @@ impl Drive {
         if n != 0 {
             return n;
         }
+        let params = self.params;
         rules::state_refusal(
             event::event_in(s),
-            self.params[table::DAMPER_MODE],
-            self.params[table::LOW],
-            self.params[table::HIGH],
+            params[table::DAMPER_MODE],
+            params[table::LOW],
+            params[table::HIGH],
             self.run != rules::NO_RUN,
             rules::forbids_run(self.fault, self.forcing),
         )

@@ -26,10 +26,11 @@ impl Drive {
         requires { ⌜ rank < 7 ⌝ }
         ensures { λ r. ⌜ r ≡ moved self rank ⌝ }
     {
-        self.with_position(rules::toward(
+        let params = self.params;
+        self.with_position(motion::toward(
             self.position,
             self.target(rank),
-            self.params[table::RATE] as u8,
+            params[table::RATE] as u8,
         ))
     }
 
@@ -53,11 +54,12 @@ impl Drive {
         let a = self.aged();
         let rank = a.ruling();
         let m = a.moved(rank).ran_down();
+        let params = self.params;
         Advanced {
             drive: m,
             rank: rank,
-            motor: rules::motor(
-                self.params[table::OPEN_CLOSE_DIRECTION],
+            motor: motion::motor(
+                params[table::OPEN_CLOSE_DIRECTION],
                 self.position,
                 m.position,
             ),
@@ -82,11 +84,12 @@ impl Drive {
     pub fn due(self, status: u8) -> bool
         ensures { λ r. ⌜ r ≡ dueWith self status ⌝ }
     {
-        let changed = rules::changed(self.params[table::ACT_POS_COV], self.position, self.lastpos);
-        (self.params[table::MIN_REP_TIME] <= self.since)
+        let params = self.params;
+        let changed = rules::changed(params[table::ACT_POS_COV], self.position, self.lastpos);
+        (params[table::MIN_REP_TIME] <= self.since)
             & (!self.reported
                 | changed
                 | (status != self.laststatus)
-                | (self.params[table::REP_PER] <= self.since))
+                | (params[table::REP_PER] <= self.since))
     }
 }

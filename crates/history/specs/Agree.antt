@@ -1,6 +1,6 @@
 -- The record after an accepted event agrees with what is read off the list, field by field.
 use mathlib.Core.Path.{_≡_, refl, sym, ap, _∙_}
-use mathlib.Core.Bool.{Bool, true, false, not, _&&_, _||_, and-false, or-true, false≢true}
+use mathlib.Core.Bool.{Bool, true, false, _&&_, _||_, and-false, or-true, false≢true}
 use mathlib.Core.List.{List, _∷_}
 use Prim.Native.Nat.{ℕ, _+_, _-_, _<_, _≤_, min}
 use native.Mathlib.Omega.{arith}
@@ -14,8 +14,8 @@ use Rattle.table.specs.Laws.{at, bounds, ranges}
 use Rattle.event.specs.declared.Event.{Event}
 use Rattle.event.specs.Event.{event, badKind, dataRefusal}
 use Rattle.event.specs.Laws.{by-kind, admitted, known-write}
-use Rattle.rules.specs.Motion.{toPosition, runTicks, toward}
-use Rattle.rules.specs.MotionLaws.{run-ticks-pos}
+use Rattle.motion.specs.Motion.{toPosition, runTicks, toward}
+use Rattle.motion.specs.Laws.{run-ticks-pos}
 use Rattle.rules.specs.Rank.{running, startRun, forced, forbidsRun, busActive}
 use Rattle.damper.specs.declared.Drive.{Drive}
 use Rattle.damper.specs.WellFormed.{wellFormed, runFits}

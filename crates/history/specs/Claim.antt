@@ -9,14 +9,14 @@ use Rattle.numbers.specs.Numbers.{pick}
 use Rattle.table.specs.Table.{minRepTime, actPosCov, rate}
 use Rattle.event.specs.declared.Event.{Event}
 use Rattle.event.specs.Event.{eventIn}
-use Rattle.rules.specs.Motion.{toward}
+use Rattle.motion.specs.Motion.{toward}
 use Rattle.rules.specs.Report.{changed}
-use Rattle.damper.specs.declared.Answer.{Answer}
-use Rattle.damper.specs.declared.Answer.the-variants.{No, Done, Par, At, Tick, Report}
+use Rattle.answer.specs.declared.Answer.{Answer}
+use Rattle.answer.specs.declared.Answer.the-variants.{No, Done, Par, At, Tick, Report}
 use Rattle.damper.specs.declared.Drive.{Drive}
 use Rattle.damper.specs.declared.Outcome.{Outcome}
 use Rattle.damper.specs.Record.{freshDrive}
-use Rattle.damper.specs.Answer.{numberOf, isReport}
+use Rattle.answer.specs.Answer.{numberOf, isReport}
 use Rattle.damper.specs.Step.{stepOf}
 use Rattle.history.specs.Readings.{isTick, isRestart, parameters, targetFrom, positionIn, statusIn, judgement}
 
@@ -88,31 +88,56 @@ lastReport (m ∷ t) = pick (acceptedAs isRestart m t) silent (orEarlier (report
 abbrev pub inForce : Moment → Trace → List ℕ
 inForce m t = parameters (accepted (m ∷ t))
 
--- The sentences of demand 3 at one record `m`, which came after the trace `t`.
+-- The sentences of demand 3, each at one record `m`, which came after the trace `t`.
+
+-- "Two spontaneous reports are never fewer ticks apart than the MinRepTime in force at the later one", `m` being the later one
+abbrev pub Spacing : Moment → Trace → Type 0
+Spacing m t = (between : Trace) (x : Moment) (old : Trace) → t ≡ between ++ (x ∷ old) → reports x ≡ true → reports m ≡ true
+    → minRepTime (inForce m t) ≤ ticksIn (m ∷ between) (x ∷ old)
+
+-- "MinRepTime ticks in a row, as in force at the last of them, never pass without restart and without report when that last tick
+-- leaves a position that differs from the last one reported by ActPosCOV or more, or a status other than the last one reported":
+-- where they do pass, `m` being the last one, there is a last report, and neither differs from it
+abbrev pub Waiting : Moment → Trace → Type 0
+Waiting m t = (row old : Trace) → m ∷ t ≡ row ++ old → acceptedAs isTick m t ≡ true → ticksIn row old ≡ minRepTime (inForce m t) → Quiet old row
+    → (p : ℕ) × (lastReport (m ∷ t) ≡ sent p (statusIn (accepted (m ∷ t))))
+    × (changed (actPosCov (inForce m t)) (positionIn (accepted (m ∷ t))) p ≡ false)
+
+-- "Each tick moves the damper by Rate or the distance, the smaller, toward the target of the highest commander which the list
+-- makes active then."
+abbrev pub Move : Moment → Trace → Type 0
+Move m t = acceptedAs isTick m t ≡ true
+    → m .position ≡ toward (positionAfter t) (targetFrom (positionAfter t) (eventIn (m .bytes)) (accepted t)) (rate (inForce m t))
+
+-- "after every event that position is the one read here"
+abbrev pub Position : Moment → Trace → Type 0
+Position m t = m .position ≡ positionIn (accepted (m ∷ t))
+
+-- "Each report gives exactly the position and status that its tick leaves."
+abbrev pub Content : Moment → Trace → Type 0
+Content m t = reports m ≡ true → reportIn (m .answer) ≡ sent (positionIn (accepted (m ∷ t))) (statusIn (accepted (m ∷ t)))
+
+-- "No other event moves the damper or sends a spontaneous report."
+abbrev pub Others : Moment → Trace → Type 0
+Others m t = acceptedAs isTick m t ≡ false → (m .position ≡ positionAfter t) × (reports m ≡ false)
+
+-- each answer refuses by exactly the number of the list's own judgement, 0 if accepted
+abbrev pub Refusal : Moment → Trace → Type 0
+Refusal m t = numberOf (m .answer) ≡ judgement (accepted t) (m .bytes)
+
+-- refusal 1 never occurs
+abbrev pub Formed : Moment → Trace → Type 0
+Formed m t = numberOf (m .answer) ≡ 1 → ⊥
+
 pub record Holds (m : Moment) (t : Trace) : Type 0 where
-  -- "Two spontaneous reports are never fewer ticks apart than the MinRepTime in force at the later one", `m` being the later one
-  pub spacing : (between : Trace) (x : Moment) (old : Trace) → t ≡ between ++ (x ∷ old) → reports x ≡ true → reports m ≡ true
-      → minRepTime (inForce m t) ≤ ticksIn (m ∷ between) (x ∷ old)
-  -- "MinRepTime ticks in a row, as in force at the last of them, never pass without restart and without report when that last tick
-  -- leaves a position that differs from the last one reported by ActPosCOV or more, or a status other than the last one reported":
-  -- where they do pass, `m` being the last one, there is a last report, and neither differs from it
-  pub waiting : (row old : Trace) → m ∷ t ≡ row ++ old → acceptedAs isTick m t ≡ true → ticksIn row old ≡ minRepTime (inForce m t) → Quiet old row
-      → (p : ℕ) × (lastReport (m ∷ t) ≡ sent p (statusIn (accepted (m ∷ t))))
-      × (changed (actPosCov (inForce m t)) (positionIn (accepted (m ∷ t))) p ≡ false)
-  -- "Each tick moves the damper by Rate or the distance, the smaller, toward the target of the highest commander which the list
-  -- makes active then."
-  pub move : acceptedAs isTick m t ≡ true
-      → m .position ≡ toward (positionAfter t) (targetFrom (positionAfter t) (eventIn (m .bytes)) (accepted t)) (rate (inForce m t))
-  -- "after every event that position is the one read here"
-  pub position : m .position ≡ positionIn (accepted (m ∷ t))
-  -- "Each report gives exactly the position and status that its tick leaves."
-  pub content : reports m ≡ true → reportIn (m .answer) ≡ sent (positionIn (accepted (m ∷ t))) (statusIn (accepted (m ∷ t)))
-  -- "No other event moves the damper or sends a spontaneous report."
-  pub others : acceptedAs isTick m t ≡ false → (m .position ≡ positionAfter t) × (reports m ≡ false)
-  -- each answer refuses by exactly the number of the list's own judgement, 0 if accepted
-  pub refusal : numberOf (m .answer) ≡ judgement (accepted t) (m .bytes)
-  -- refusal 1 never occurs
-  pub formed : numberOf (m .answer) ≡ 1 → ⊥
+  pub spacing : Spacing m t
+  pub waiting : Waiting m t
+  pub move : Move m t
+  pub position : Position m t
+  pub content : Content m t
+  pub others : Others m t
+  pub refusal : Refusal m t
+  pub formed : Formed m t
 
 -- The claim about a whole trace: the sentences hold at each of its records.
 abbrev pub Claim : Trace → Type 0

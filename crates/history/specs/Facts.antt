@@ -9,21 +9,20 @@ use lib.ListN.{length}
 use borrow.Author.Tests.{leb-true, le-leb, eqb-true, ne-eqb}
 use Rattle.numbers.specs.Numbers.{pick, next}
 use Rattle.numbers.specs.Laws.{and-left, and-right, not-false}
-use Rattle.table.specs.Table.{damperMode, low, high, minRepTime, actPosCov, repPer, rate}
+use Rattle.table.specs.Table.{damperMode, low, high, minRepTime, actPosCov, repPer}
 use Rattle.event.specs.declared.Event.{Event}
 use Rattle.event.specs.Event.{eventIn, badMark, badKind, unusedSet, badA, badCommand, badPercent, dataRefusal, recordRefusal}
 use Rattle.event.specs.Laws.{admitted, record-passed}
-use Rattle.rules.specs.Motion.{toward}
 use Rattle.rules.specs.Rank.{running, forbidsRun}
 use Rattle.rules.specs.Report.{changed}
 use Rattle.rules.specs.Refusal.{wrongProperty, outsideTable, lowAboveHigh, rateInRun, runForbidden, stateRefusal, refusal}
 use Rattle.rules.specs.RefusalLaws.{refusal-passed}
-use Rattle.damper.specs.declared.Answer.{Answer}
-use Rattle.damper.specs.declared.Answer.the-variants.{No, Done, Par, At, Tick, Report}
+use Rattle.answer.specs.declared.Answer.{Answer}
+use Rattle.answer.specs.declared.Answer.the-variants.{No, Done, Par, At, Tick, Report}
 use Rattle.damper.specs.declared.Drive.{Drive}
 use Rattle.damper.specs.declared.Advanced.{Advanced}
 use Rattle.damper.specs.declared.Outcome.{Outcome}
-use Rattle.damper.specs.Answer.{numberOf, isReport}
+use Rattle.answer.specs.Answer.{isReport}
 use Rattle.damper.specs.WellFormed.{wellFormed}
 use Rattle.damper.specs.Tick.{advance, due, dueWith, statusOf}
 use Rattle.damper.specs.Step.{outcome, tickWith, ticked, applied}
@@ -63,13 +62,11 @@ pub record Facts (d : Drive) (t : C.Trace) (s : List ℕ) (o : Outcome) : Type 0
       → minRepTime (C.inForce (momentOf s o) t) ≤ next (d .since)
       → (d .reported ≡ true) × (R.statusIn (C.accepted (momentOf s o ∷ t)) ≡ d .laststatus)
       × (changed (actPosCov (C.inForce (momentOf s o) t)) (R.positionIn (C.accepted (momentOf s o ∷ t))) (d .lastpos) ≡ false)
-  pub move : C.acceptedAs R.isTick (momentOf s o) t ≡ true
-      → o .drive .position ≡ toward (C.positionAfter t) (R.targetFrom (C.positionAfter t) (eventIn s) (C.accepted t)) (rate (C.inForce (momentOf s o) t))
-  pub content : C.reports (momentOf s o) ≡ true
-      → C.reportIn (o .answer) ≡ C.sent (R.positionIn (C.accepted (momentOf s o ∷ t))) (R.statusIn (C.accepted (momentOf s o ∷ t)))
-  pub others : C.acceptedAs R.isTick (momentOf s o) t ≡ false → (o .drive .position ≡ C.positionAfter t) × (C.reports (momentOf s o) ≡ false)
-  pub refusal : numberOf (o .answer) ≡ R.judgement (C.accepted t) s
-  pub formed : numberOf (o .answer) ≡ 1 → ⊥
+  pub move : C.Move (momentOf s o) t
+  pub content : C.Content (momentOf s o) t
+  pub others : C.Others (momentOf s o) t
+  pub refusal : C.Refusal (momentOf s o) t
+  pub formed : C.Formed (momentOf s o) t
 
 -- no refusal that looks at bytes or state has number 1
 abbrev NotOne : ℕ → Type 0

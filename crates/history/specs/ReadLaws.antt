@@ -11,7 +11,7 @@ use Rattle.table.specs.declared.Row.{Row}
 use Rattle.table.specs.Table.{rows, placeFrom, placeOf, known}
 use Rattle.table.specs.Laws.{by-number}
 use Rattle.event.specs.declared.Event.{Event}
-use Rattle.event.specs.Event.{event, valueOf}
+use Rattle.event.specs.Event.{valueOf}
 use Rattle.history.specs.Readings as R
 
 after-below : (e : Event) (h : List Event) (x : R.Found) → R.afterIn (e ∷ h) (R.below e x) ≡ e ∷ R.afterIn h x

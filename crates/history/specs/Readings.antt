@@ -10,7 +10,7 @@ use Rattle.table.specs.declared.Row.{Row}
 use Rattle.table.specs.Table.{rows, damperMode, startSynchronization, timeout, rate, low, high}
 use Rattle.event.specs.declared.Event.{Event}
 use Rattle.event.specs.Event.{valueOf}
-use Rattle.rules.specs.Motion.{toPosition, runTicks, toward}
+use Rattle.motion.specs.Motion.{toPosition, runTicks, toward}
 use Rattle.rules.specs.Rank.{running, startRun, forced, forbidsRun, busActive, activeByte, rulingRank, targets}
 use Rattle.rules.specs.Report.{status}
 use Rattle.rules.specs.Refusal.{refusal}

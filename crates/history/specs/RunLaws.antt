@@ -10,7 +10,7 @@ use Rattle.numbers.specs.Numbers.{pick}
 use Rattle.numbers.specs.Laws.{cases}
 use Rattle.table.specs.Table.{rate}
 use Rattle.event.specs.declared.Event.{Event}
-use Rattle.rules.specs.Motion.{runTicks}
+use Rattle.motion.specs.Motion.{runTicks}
 use Rattle.rules.specs.Rank.{running}
 use Rattle.history.specs.Readings as R
 

@@ -10,9 +10,8 @@ use lib.ListN.{length}
 use borrow.Author.Tests.{eqb-true, eqb-false}
 use Rattle.numbers.specs.Numbers.{pick, next}
 use Rattle.numbers.specs.Laws.{cases}
-use Rattle.table.specs.Table.{rows, rowAt, allIn, minRepTime, actPosCov}
+use Rattle.table.specs.Table.{rows, rowAt, allIn, minRepTime}
 use Rattle.table.specs.Laws.{at, bounds}
-use Rattle.rules.specs.Report.{changed}
 use Rattle.damper.specs.declared.Drive.{Drive}
 use Rattle.damper.specs.declared.Outcome.{Outcome}
 use Rattle.damper.specs.Record.{freshDrive}
@@ -38,12 +37,18 @@ facts d t s g =
     let j = eqb-false _ 0 q in
     rw (F.step-refused d s (λ z. j (sym (judged d t s g) ∙ z)), judged d t s g) (facts-refused d t s g j))
 
--- since is at most the ticks after any report, and at least the ticks of a stretch without restart and report
+-- a since is at most the ticks after any report, and at least the ticks of a stretch without restart and report
+abbrev Most : ℕ → C.Trace → Type 0
+Most since t = (between : C.Trace) (x : C.Moment) (old : C.Trace) → t ≡ between ++ (x ∷ old) → C.reports x ≡ true
+    → since ≤ C.ticksIn between (x ∷ old)
+
+abbrev Least : ℕ → C.Trace → Type 0
+Least since t = (row old : C.Trace) → t ≡ row ++ old → C.Quiet old row → min (C.ticksIn row old) 65535 ≤ since
+
 pub record Inv (d : Drive) (t : C.Trace) : Type 0 where
   pub good : Good d t
-  pub most : (between : C.Trace) (x : C.Moment) (old : C.Trace) → t ≡ between ++ (x ∷ old) → C.reports x ≡ true
-      → d .since ≤ C.ticksIn between (x ∷ old)
-  pub least : (row old : C.Trace) → t ≡ row ++ old → C.Quiet old row → min (C.ticksIn row old) 65535 ≤ d .since
+  pub most : Most (d .since) t
+  pub least : Least (d .since) t
 
 head-eq : (x y : C.Moment) (l k : C.Trace) → x ∷ l ≡ y ∷ k → x ≡ y
 head-eq x y l k e = cc
@@ -63,15 +68,14 @@ step-least true x s n p q = omega arith
 step-least false x s n p q = omega arith
 
 module _ (d : Drive) (t : C.Trace) (s : List ℕ) (o : Outcome) (i : Inv d t) (f : Facts d t s o) where
-  most′ : (between : C.Trace) (x : C.Moment) (old : C.Trace) → momentOf s o ∷ t ≡ between ++ (x ∷ old) → C.reports x ≡ true
-      → o .drive .since ≤ C.ticksIn between (x ∷ old)
+  most′ : Most (o .drive .since) (momentOf s o ∷ t)
   unfolding C.ticksIn
   most′ [] x old e r = rw (f .since-sent (ap C.reports (head-eq _ x t old e) ∙ r)) (omega arith)
   most′ (y ∷ b) x old e r =
       rw (← (head-eq _ y t (b ++ (x ∷ old)) e), ← (tail-eq _ y t (b ++ (x ∷ old)) e))
       (step-most (C.acceptedAs R.isTick (momentOf s o) t) _ (d .since) _ (f .since-most) (i .most b x old (tail-eq _ y t (b ++ (x ∷ old)) e) r))
 
-  least′ : (row old : C.Trace) → momentOf s o ∷ t ≡ row ++ old → C.Quiet old row → min (C.ticksIn row old) 65535 ≤ o .drive .since
+  least′ : Least (o .drive .since) (momentOf s o ∷ t)
   unfolding C.ticksIn
   least′ [] old e q = omega arith
   least′ (y ∷ b) old e (C.more p q qs) =
@@ -89,10 +93,7 @@ module _ (d : Drive) (t : C.Trace) (s : List ℕ) (o : Outcome) (i : Inv d t) (f
   wait-bounds : (1 ≤ minRepTime (C.inForce (momentOf s o) t)) × (minRepTime (C.inForce (momentOf s o) t) ≤ 3600)
   wait-bounds = bounds (rowAt rows 3) _ (at rows _ 3 in-range (omega arith))
 
-  waiting′ : (row old : C.Trace) → momentOf s o ∷ t ≡ row ++ old → C.acceptedAs R.isTick (momentOf s o) t ≡ true
-      → C.ticksIn row old ≡ minRepTime (C.inForce (momentOf s o) t) → C.Quiet old row
-      → (p : ℕ) × (C.lastReport (momentOf s o ∷ t) ≡ C.sent p (R.statusIn (C.accepted (momentOf s o ∷ t))))
-      × (changed (actPosCov (C.inForce (momentOf s o) t)) (R.positionIn (C.accepted (momentOf s o ∷ t))) p ≡ false)
+  waiting′ : C.Waiting (momentOf s o) t
   unfolding C.ticksIn C.lastReport
   waiting′ [] old e k n q = let l = wait-bounds .0 in absurd (omega arith)
   waiting′ (y ∷ b) old e k n (C.more p q qs) =
@@ -109,8 +110,7 @@ module _ (d : Drive) (t : C.Trace) (s : List ℕ) (o : Outcome) (i : Inv d t) (f
         z .2,
       )
 
-  spacing′ : (between : C.Trace) (x : C.Moment) (old : C.Trace) → t ≡ between ++ (x ∷ old) → C.reports x ≡ true → C.reports (momentOf s o) ≡ true
-      → minRepTime (C.inForce (momentOf s o) t) ≤ C.ticksIn (momentOf s o ∷ between) (x ∷ old)
+  spacing′ : C.Spacing (momentOf s o) t
   unfolding C.ticksIn
   spacing′ between x old e r q =
       let z = f .sent-due q in
@@ -167,11 +167,10 @@ fresh-inv : Inv freshDrive []
 unfolding C.ticksIn
 fresh-inv = record { good = fresh-good; most = none-most; least = none-least }
   where
-    none-most : (between : C.Trace) (x : C.Moment) (old : C.Trace) → [] ≡ between ++ (x ∷ old) → C.reports x ≡ true
-        → freshDrive .since ≤ C.ticksIn between (x ∷ old)
+    none-most : Most (freshDrive .since) []
     none-most b x old e r = omega arith
 
-    none-least : (row old : C.Trace) → [] ≡ row ++ old → C.Quiet old row → min (C.ticksIn row old) 65535 ≤ freshDrive .since
+    none-least : Least (freshDrive .since) []
     none-least [] old e q = omega arith
     none-least (y ∷ b) old e q = absurd (no-cons y (b ++ old) e)
 

@@ -1,7 +1,7 @@
 -- Outcomes and decoded events as structs of numbers, since an exported struct holds no enum.
 use Rattle.event.specs.declared.Decoded.the-variants.{Accepted, Refused}
 use Rattle.damper.specs.declared.Outcome.{Outcome}
-use Rattle.damper.specs.Answer.{wordOf, codeOf}
+use Rattle.answer.specs.Answer.{wordOf, codeOf}
 use Rattle.host.specs.declared.Stepped.{Stepped}
 use Rattle.host.specs.declared.Found.{Found}
 

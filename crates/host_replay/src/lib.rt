@@ -1,7 +1,7 @@
 // The replay for a host in C or Rust. An archive of its own, in which the step has one call site.
 ghost use mathlib.Core.Path.{_≡_};
 ghost use lib.ListN.{length};
-ghost use Rattle.damper.specs.Answer.{wordOf, codeOf};
+ghost use Rattle.answer.specs.Answer.{wordOf, codeOf};
 ghost use Rattle.history.specs.Claim.{outcomes, driveAfter};
 ghost use Rattle.replay.specs.Replay.{carried, rowAfter};
 use damper::Drive;

@@ -12,17 +12,17 @@ use Rattle.table.specs.Table.{placeOf, damperMode, startSynchronization, rate, 
 use Rattle.event.specs.declared.Event.{Event}
 use Rattle.event.specs.Event.{event, eventIn, badKind, valueOf}
 use Rattle.event.specs.Laws.{by-kind}
-use Rattle.rules.specs.Motion.{toPosition, toward, runTicks}
+use Rattle.motion.specs.Motion.{toPosition, toward, runTicks}
 use Rattle.rules.specs.Rank.{running, startRun, forbidsRun}
 use Rattle.rules.specs.Refusal.{refusal}
 use Rattle.damper.specs.declared.Drive.{Drive}
 use Rattle.damper.specs.declared.Outcome.{Outcome}
-use Rattle.damper.specs.declared.Answer.the-variants.{No, Report}
+use Rattle.answer.specs.declared.Answer.the-variants.{No, Report}
 use Rattle.damper.specs.Record.{withCounts, withPosition, withRun, withSetpoint, withTool}
 use Rattle.damper.specs.WellFormed.{wellFormed}
 use Rattle.damper.specs.Tick.{aged, ruling, targetAt, moved, ranDown, advance, statusOf, due}
-use Rattle.damper.specs.Answer.{isReport, numberOf}
-use Rattle.damper.specs.Step.{outcome, done, tickWith, ticked, commanded, calibrated, restarted, applied, refusalOf, stepOf}
+use Rattle.answer.specs.Answer.{isReport, numberOf}
+use Rattle.damper.specs.Step.{outcome, done, tickWith, ticked, commanded, calibrated, restarted, obeyed, applied, refusalOf, stepOf}
 
 -- kind 3 with command 0, and with another
 abbrev written : Drive → ℕ → Outcome
@@ -57,7 +57,7 @@ after : {A : Type 0} (f : Outcome → A) (d : Drive) (g : Event → A)
     → ((c : ℕ) → eqb c 0 ≡ false → _≡_ {A = ℕ → ℕ → A} (λ a b. f (overridden d b c)) (λ a b. g (event 3 a b c)))
     → others (λ e. f (applied d e)) ≡ others g
     → (e : Event) → badKind (e .kind) ≡ false → f (applied d e) ≡ g e
-unfolding applied ticked commanded
+unfolding obeyed applied ticked commanded
 after f d g t1 t0 w1 w0 o e =
     let h : others (λ x. f (applied d x)) (e .a) (e .b) (e .c) ≡ others g (e .a) (e .b) (e .c) = λ i. o i (e .a) (e .b) (e .c) in
     by-kind (λ k. let x = event k (e .a) (e .b) (e .c) in f (applied d x) ≡ g x)
@@ -87,68 +87,68 @@ module _ (d : Drive) where
   -- fault flag and forcing
   pub fault-after : (e : Event) → badKind (e .kind) ≡ false
       → applied d e .drive .fault ≡ pick (eqb (e .kind) 9) false (pick (eqb (e .kind) 7) (eqb (e .a) 1) (d .fault))
-  unfolding applied tickWith advance aged moved ranDown calibrated restarted
+  unfolding obeyed applied tickWith advance aged moved ranDown calibrated restarted
   fault-after = plain (λ o. o .drive .fault) d _ refl
 
   pub forcing-after : (e : Event) → badKind (e .kind) ≡ false
       → applied d e .drive .forcing ≡ pick (eqb (e .kind) 9) 0 (pick (eqb (e .kind) 4) (e .a) (d .forcing))
-  unfolding applied tickWith advance aged moved ranDown calibrated restarted
+  unfolding obeyed applied tickWith advance aged moved ranDown calibrated restarted
   forcing-after = plain (λ o. o .drive .forcing) d _ refl
 
   -- hand and tool
   pub hand-after : (e : Event) → badKind (e .kind) ≡ false
       → applied d e .drive .hand ≡ pick (eqb (e .kind) 9) false (pick (eqb (e .kind) 5) (eqb (e .a) 1) (d .hand))
-  unfolding applied tickWith advance aged moved ranDown calibrated restarted
+  unfolding obeyed applied tickWith advance aged moved ranDown calibrated restarted
   hand-after = plain (λ o. o .drive .hand) d _ refl
 
   pub handpos-after : (e : Event) → badKind (e .kind) ≡ false
       → applied d e .drive .handpos ≡ pick (eqb (e .kind) 9) 0
       (pick (eqb (e .kind) 5) (pick (eqb (e .a) 1) (e .b) 0) (d .handpos))
-  unfolding applied tickWith advance aged moved ranDown calibrated restarted
+  unfolding obeyed applied tickWith advance aged moved ranDown calibrated restarted
   handpos-after = plain (λ o. o .drive .handpos) d _ refl
 
   pub tool-after : (e : Event) → badKind (e .kind) ≡ false
       → applied d e .drive .tool ≡ pick (eqb (e .kind) 9) false
       (pick (eqb (e .kind) 3 && not (eqb (e .c) 0)) (eqb (e .c) 1) (d .tool))
-  unfolding applied tickWith advance aged moved ranDown calibrated restarted
+  unfolding obeyed applied tickWith advance aged moved ranDown calibrated restarted
   tool-after = after (λ o. o .drive .tool) d _ (λ q. refl) (λ q. refl) (λ c q. rw q) (λ c q. rw q) refl
 
   pub toolpos-after : (e : Event) → badKind (e .kind) ≡ false
       → applied d e .drive .toolpos ≡ pick (eqb (e .kind) 9) 0
       (pick (eqb (e .kind) 3 && not (eqb (e .c) 0)) (pick (eqb (e .c) 1) (toPosition (e .b)) 0) (d .toolpos))
-  unfolding applied tickWith advance aged moved ranDown calibrated restarted
+  unfolding obeyed applied tickWith advance aged moved ranDown calibrated restarted
   toolpos-after = after (λ o. o .drive .toolpos) d _ (λ q. refl) (λ q. refl) (λ c q. rw q) (λ c q. rw q) refl
 
   -- the bus setpoint and its age
   pub bus-after : (e : Event) → badKind (e .kind) ≡ false
       → applied d e .drive .bus ≡ pick (eqb (e .kind) 9) false
       (pick (eqb (e .kind) 2 || (eqb (e .kind) 3 && eqb (e .c) 0)) true (d .bus))
-  unfolding applied tickWith advance aged moved ranDown calibrated restarted
+  unfolding obeyed applied tickWith advance aged moved ranDown calibrated restarted
   bus-after = after (λ o. o .drive .bus) d _ (λ q. refl) (λ q. refl) (λ c q. rw q) (λ c q. rw q) refl
 
   pub setpoint-after : (e : Event) → badKind (e .kind) ≡ false
       → applied d e .drive .setpoint ≡ pick (eqb (e .kind) 9) 0
       (pick (eqb (e .kind) 2 || (eqb (e .kind) 3 && eqb (e .c) 0))
       (pick (eqb (e .kind) 2) (e .a) (toPosition (e .b))) (d .setpoint))
-  unfolding applied tickWith advance aged moved ranDown calibrated restarted
+  unfolding obeyed applied tickWith advance aged moved ranDown calibrated restarted
   setpoint-after = after (λ o. o .drive .setpoint) d _ (λ q. refl) (λ q. refl) (λ c q. rw q) (λ c q. rw q) refl
 
   pub age-after : (e : Event) → badKind (e .kind) ≡ false
       → applied d e .drive .age ≡ pick (eqb (e .kind) 9) 0
       (pick (eqb (e .kind) 2 || (eqb (e .kind) 3 && eqb (e .c) 0)) 0
       (pick (eqb (e .kind) 1) (pick (d .bus) (next (d .age)) (d .age)) (d .age)))
-  unfolding applied tickWith advance aged moved ranDown calibrated restarted
+  unfolding obeyed applied tickWith advance aged moved ranDown calibrated restarted
   age-after = after (λ o. o .drive .age) d _ (λ q. refl) (λ q. refl) (λ c q. rw q) (λ c q. rw q) refl
 
   -- parameters and position
   pub params-after : (e : Event) → badKind (e .kind) ≡ false
       → applied d e .drive .params ≡ pick (eqb (e .kind) 8) (set (d .params) (placeOf (e .a)) (valueOf e)) (d .params)
-  unfolding applied tickWith advance aged moved ranDown calibrated restarted
+  unfolding obeyed applied tickWith advance aged moved ranDown calibrated restarted
   params-after = plain (λ o. o .drive .params) d _ refl
 
   pub position-after : (e : Event) → badKind (e .kind) ≡ false
       → applied d e .drive .position ≡ pick (eqb (e .kind) 1) (advance d .drive .position) (d .position)
-  unfolding applied tickWith advance aged moved ranDown calibrated restarted
+  unfolding obeyed applied tickWith advance aged moved ranDown calibrated restarted
   position-after = plain (λ o. o .drive .position) d _ refl
 
   -- the run and its ticks left
@@ -158,7 +158,7 @@ module _ (d : Drive) where
       (pick (eqb (e .kind) 1) (pick (leb (d .left) 1) 0 (d .run))
       (pick (eqb (e .kind) 4) (pick (forbidsRun (d .fault) (e .a)) 0 (d .run))
       (pick (eqb (e .kind) 7) (pick (forbidsRun (eqb (e .a) 1) (d .forcing)) 0 (d .run)) (d .run)))))
-  unfolding applied tickWith advance aged moved ranDown calibrated restarted
+  unfolding obeyed applied tickWith advance aged moved ranDown calibrated restarted
   run-after = plain (λ o. o .drive .run) d _ refl
 
   pub left-after : (e : Event) → badKind (e .kind) ≡ false
@@ -168,48 +168,48 @@ module _ (d : Drive) where
       (pick (eqb (e .kind) 1) (d .left - 1)
       (pick (eqb (e .kind) 4) (pick (forbidsRun (d .fault) (e .a)) 0 (d .left))
       (pick (eqb (e .kind) 7) (pick (forbidsRun (eqb (e .a) 1) (d .forcing)) 0 (d .left)) (d .left)))))
-  unfolding applied tickWith advance aged moved ranDown calibrated restarted
+  unfolding obeyed applied tickWith advance aged moved ranDown calibrated restarted
   left-after = plain (λ o. o .drive .left) d _ refl
 
   -- the ticks since the last report, and what it said
   pub since-after : (e : Event) → badKind (e .kind) ≡ false
       → applied d e .drive .since ≡ pick (eqb (e .kind) 9) 0
       (pick (eqb (e .kind) 1) (pick (due (advance d .drive)) 0 (next (d .since))) (d .since))
-  unfolding applied tickWith advance aged moved ranDown calibrated restarted
+  unfolding obeyed applied tickWith advance aged moved ranDown calibrated restarted
   since-after = after (λ o. o .drive .since) d _ (λ q. rw q) (λ q. rw q) (λ c q. refl) (λ c q. refl) refl
 
   pub reported-after : (e : Event) → badKind (e .kind) ≡ false
       → applied d e .drive .reported ≡ pick (eqb (e .kind) 9) false
       (pick (eqb (e .kind) 1 && due (advance d .drive)) true (d .reported))
-  unfolding applied tickWith advance aged moved ranDown calibrated restarted
+  unfolding obeyed applied tickWith advance aged moved ranDown calibrated restarted
   reported-after = after (λ o. o .drive .reported) d _ (λ q. rw q) (λ q. rw q) (λ c q. refl) (λ c q. refl) refl
 
   pub lastpos-after : (e : Event) → badKind (e .kind) ≡ false
       → applied d e .drive .lastpos ≡ pick (eqb (e .kind) 9) 0
       (pick (eqb (e .kind) 1 && due (advance d .drive)) (advance d .drive .position) (d .lastpos))
-  unfolding applied tickWith advance aged moved ranDown calibrated restarted
+  unfolding obeyed applied tickWith advance aged moved ranDown calibrated restarted
   lastpos-after = after (λ o. o .drive .lastpos) d _ (λ q. rw q) (λ q. rw q) (λ c q. refl) (λ c q. refl) refl
 
   pub laststatus-after : (e : Event) → badKind (e .kind) ≡ false
       → applied d e .drive .laststatus ≡ pick (eqb (e .kind) 9) 0
       (pick (eqb (e .kind) 1 && due (advance d .drive)) (statusOf (advance d .drive)) (d .laststatus))
-  unfolding applied tickWith advance aged moved ranDown calibrated restarted
+  unfolding obeyed applied tickWith advance aged moved ranDown calibrated restarted
   laststatus-after = after (λ o. o .drive .laststatus) d _ (λ q. rw q) (λ q. rw q) (λ c q. refl) (λ c q. refl) refl
 
   -- the answer: it is a report just where a tick is due, and no refusal
   pub report-after : (e : Event) → badKind (e .kind) ≡ false
       → isReport (applied d e .answer) ≡ eqb (e .kind) 1 && due (advance d .drive)
-  unfolding applied tickWith advance aged moved ranDown calibrated restarted
+  unfolding obeyed applied tickWith advance aged moved ranDown calibrated restarted
   report-after = after (λ o. isReport (o .answer)) d _ (λ q. rw q) (λ q. rw q) (λ c q. refl) (λ c q. refl) refl
 
   pub number-after : (e : Event) → badKind (e .kind) ≡ false
       → numberOf (applied d e .answer) ≡ 0
-  unfolding applied tickWith advance aged moved ranDown calibrated restarted
+  unfolding obeyed applied tickWith advance aged moved ranDown calibrated restarted
   number-after = plain (λ o. numberOf (o .answer)) d _ refl
 
   pub answer-report : (e : Event) → e .kind ≡ 1 → due (advance d .drive) ≡ true
       → applied d e .answer ≡ Report (advance d .drive .position) (advance d .rank) (advance d .motor) (statusOf (advance d .drive))
-  unfolding applied ticked tickWith
+  unfolding obeyed applied ticked tickWith
   answer-report e k q = rw (k, q)
 
   -- steps 1 to 3 of a tick: the record whole, then field by field

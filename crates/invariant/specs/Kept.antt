@@ -17,8 +17,8 @@ use Rattle.table.specs.Laws.{all-length, all-set}
 use Rattle.event.specs.declared.Event.{Event}
 use Rattle.event.specs.Event.{event, eventIn, badA, dataRefusal}
 use Rattle.event.specs.Laws.{by-kind, admitted, record-passed}
-use Rattle.rules.specs.Motion.{runTicks}
-use Rattle.rules.specs.MotionLaws.{run-ticks-pos}
+use Rattle.motion.specs.Motion.{runTicks}
+use Rattle.motion.specs.Laws.{run-ticks-pos}
 use Rattle.rules.specs.Rank.{running, startRun, forbidsRun}
 use Rattle.rules.specs.Refusal.{stateRefusal}
 use Rattle.rules.specs.RefusalLaws.{Passed, state-passed, refusal-passed}
@@ -29,7 +29,7 @@ use Rattle.damper.specs.Record.{freshDrive, withCounts, withPosition, withRun, 
 use Rattle.damper.specs.WellFormed.{offZero, runFits, absentZero, wellFormed}
 use Rattle.damper.specs.Laws.{wf-ranges}
 use Rattle.damper.specs.Tick.{aged, moved, ranDown, advance, statusOf}
-use Rattle.damper.specs.Step.{tickWith, ticked, commanded, calibrated, restarted, applied, refusalOf, stepOf}
+use Rattle.damper.specs.Step.{tickWith, ticked, commanded, calibrated, restarted, obeyed, applied, refusalOf, stepOf}
 
 -- Laws of the table: what a write of one parameter leaves at a place.
 
@@ -297,7 +297,7 @@ wf-tick d w = wf-tick-with _ (advance d) (wf-advance d w)
 pub wf-applied : (d : Drive) (e : Event) → wellFormed d ≡ true → dataRefusal e ≡ 0
     → stateRefusal e (damperMode (d .params)) (low (d .params)) (high (d .params)) (running (d .run)) (forbidsRun (d .fault) (d .forcing)) ≡ 0
     → wellFormed (applied d e .drive) ≡ true
-unfolding applied
+unfolding obeyed applied
 wf-applied d e w h r =
     by-kind Kept
     (λ a b c x y. wf-tick d w)

@@ -5,9 +5,9 @@ use Prim.Native.Nat.{ℕ, zero, suc, _+_, _/_, _%_}
 use lib.Dec.{leb, ltb}
 use lib.ListN.{length, take, drop}
 use Rattle.numbers.specs.Numbers.{pick}
-use Rattle.damper.specs.Answer.{valuesOf}
-use Rattle.damper.specs.declared.Answer.{Answer}
-use Rattle.damper.specs.declared.Answer.the-variants.{No, Done, Par, At, Tick, Report}
+use Rattle.answer.specs.Answer.{valuesOf}
+use Rattle.answer.specs.declared.Answer.{Answer}
+use Rattle.answer.specs.declared.Answer.the-variants.{No, Done, Par, At, Tick, Report}
 
 -- the decimal digits of a number in ASCII, the most significant first and no leading zero; `most` bounds how many
 unfoldable pub digitsWithin : ℕ → ℕ → List ℕ

@@ -5,7 +5,7 @@ ghost use mathlib.Core.List.{[], _∷_};
 ghost use Prim.Native.Nat.{_+_, _<_, _≤_};
 ghost use lib.ListN.{length};
 ghost use Rattle.line.specs.Line.{decimal, spaced, textOf, Written, putLine, endOf};
-use damper::Answer;
+use answer::Answer;
 
 // A line is written only where this many bytes are free: more than any line has.
 pub const ROOM: usize = 64;

@@ -7,19 +7,19 @@ use lib.Count.{leadingZeros}
 use lib.ListN.{drop, replicate}
 use Rattle.table.specs.Table.{allIn, placeFrom}
 use Rattle.event.specs.Event.{event, bytesOf, dataRefusal, recordRefusal}
-use Rattle.rules.specs.Motion.{toPosition, runTicks, toward, motor}
+use Rattle.motion.specs.Motion.{toPosition, runTicks, toward, motor}
 use Rattle.rules.specs.Rank.{rulingRank, activeByte, backupTarget, targets}
 use Rattle.rules.specs.Report.{status, changed}
 use Rattle.rules.specs.Refusal.{stateRefusal, refusal}
 use Rattle.damper.specs.declared.Drive.{Drive}
 use Rattle.damper.specs.declared.Outcome.{Outcome}
-use Rattle.damper.specs.declared.Answer.{Answer}
-use Rattle.damper.specs.declared.Answer.the-variants.{No, Done, Par, At, Tick, Report}
+use Rattle.answer.specs.declared.Answer.{Answer}
+use Rattle.answer.specs.declared.Answer.the-variants.{No, Done, Par, At, Tick, Report}
 use Rattle.damper.specs.Record.{freshDrive}
 use Rattle.damper.specs.WellFormed.{runFits, absentZero, wellFormed}
 use Rattle.damper.specs.Tick.{aged, targetAt, moved, ranDown, advance, dueWith}
 use Rattle.history.specs.Claim.{outcomes, driveAfter}
-use Rattle.damper.specs.Step.{tickWith, ticked, commanded, calibrated, restarted, applied, refusalOf, stepOf}
+use Rattle.damper.specs.Step.{tickWith, ticked, commanded, calibrated, restarted, obeyed, applied, refusalOf, stepOf}
 
 -- what a row speaks of
 pub data Seen : Type 0 where
@@ -88,5 +88,5 @@ table =
 
 -- Each row holds.
 pub marked : map (λ (r : Row). r .got) table ≡ map (λ (r : Row). r .want) table
-unfolding allIn placeFrom dataRefusal recordRefusal toPosition runTicks toward motor rulingRank activeByte backupTarget targets status stateRefusal refusal runFits absentZero wellFormed aged targetAt moved ranDown advance dueWith tickWith ticked commanded calibrated restarted applied refusalOf stepOf outcomes driveAfter leadingZeros
+unfolding allIn placeFrom dataRefusal recordRefusal toPosition runTicks toward motor rulingRank activeByte backupTarget targets status stateRefusal refusal runFits absentZero wellFormed aged targetAt moved ranDown advance dueWith tickWith ticked commanded calibrated restarted obeyed applied refusalOf stepOf outcomes driveAfter leadingZeros
 marked = refl

@@ -7,10 +7,10 @@ use native.Mathlib.Nat.{not-suc-le-zero, add-sub-cancel-left}
 use native.Mathlib.Numerals.{add-one}
 use lib.ListN.{length, take, drop, set, drop-of-length-le, take-append-drop, length-take, length-drop}
 use lib.Seq.{drop-drop, take-nil, drop-cons, append-snoc, take-at, drop-at, take-suc-set, drop-set-lt}
-use Rattle.damper.specs.declared.Answer.{Answer}
+use Rattle.answer.specs.declared.Answer.{Answer}
 use Rattle.damper.specs.declared.Drive.{Drive}
 use Rattle.damper.specs.declared.Outcome.{Outcome}
-use Rattle.damper.specs.Answer.{wordOf, codeOf}
+use Rattle.answer.specs.Answer.{wordOf, codeOf}
 use Rattle.damper.specs.Step.{stepOf}
 use Rattle.history.specs.Claim.{outcomes, driveAfter}
 use Rattle.replay.specs.Replay.{recordsOf, rowAfter}

@@ -2,7 +2,7 @@
 use mathlib.Core.List.{List, [], _∷_, _++_, map}
 use Prim.Native.Nat.{ℕ, min}
 use lib.ListN.{length, take, drop}
-use Rattle.damper.specs.declared.Answer.{Answer}
+use Rattle.answer.specs.declared.Answer.{Answer}
 use Rattle.damper.specs.declared.Drive.{Drive}
 use Rattle.history.specs.Claim.{outcomes}
 

@@ -3,7 +3,7 @@
 ghost use mathlib.Core.Path.{_≡_};
 ghost use Prim.Native.Nat.{min};
 ghost use lib.ListN.{length};
-ghost use Rattle.damper.specs.Answer.{wordOf, codeOf};
+ghost use Rattle.answer.specs.Answer.{wordOf, codeOf};
 ghost use Rattle.history.specs.Claim.{outcomes, driveAfter};
 ghost use Rattle.replay.specs.Replay.{carried, rowAfter};
 use damper::Drive;

@@ -1,6 +1,4 @@
 -- Document 01's rules over plain numbers and flags, so that a drive record and a list of events can both supply them.
-pub mod Motion
-pub mod MotionLaws
 pub mod Rank
 pub mod RankLaws
 pub mod Report

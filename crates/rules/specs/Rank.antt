@@ -6,7 +6,7 @@ use lib.Dec.{leb, eqb}
 use lib.Count.{leadingZeros}
 use Rattle.numbers.specs.Numbers.{pick, bit}
 use Rattle.table.specs.Table.{backupMode, backupValue, low, high}
-use Rattle.rules.specs.Motion.{toPosition, within}
+use Rattle.motion.specs.Motion.{toPosition, within}
 
 -- who can command the damper (document 01: commander)
 pub data Source : Type 0 where

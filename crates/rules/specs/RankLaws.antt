@@ -5,7 +5,6 @@ use native.Mathlib.Omega.{arith}
 use native.Mathlib.Nat.{lt-of-not-le, not-le-of-lt, le-trans}
 use lib.Pow.{pow-mono}
 use lib.Count.{leadingZeros, leading-top}
-use Rattle.numbers.specs.Numbers.{bit}
 use Rattle.rules.specs.Rank as R
 
 pub zeros-le : (a : ℕ) → 1 ≤ a → a < 256 → leadingZeros 8 a ≤ 7

@@ -1,8 +1,10 @@
 // Document 01's rules over plain numbers and flags.
 ghost use mathlib.Core.Path.{_≡_};
 ghost use Prim.Native.Nat.{_≤_};
-ghost use Rattle.rules.specs.Motion.{toPosition, toPercent, runTicks, within, toward, motor};
-ghost use Rattle.rules.specs.Rank.{forced, forbidsRun, busActive};
+ghost use Rattle.table.specs.Table.{low, high};
+ghost use Rattle.table.specs.Laws.{Ranges};
+ghost use Rattle.motion.specs.Motion.{within};
+ghost use Rattle.rules.specs.Rank.{startRun, forced, forbidsRun, busActive, rulingRank, backupTarget};
 ghost use Rattle.rules.specs.Report.{status, changed};
 ghost use Rattle.rules.specs.Refusal.{stateRefusal};
 use event::Event;
@@ -25,54 +27,43 @@ const LOW: u8 = 204;
 
 const HIGH: u8 = 205;
 
-pub fn to_position(percent: u8) -> u8
-    requires { ⌜ percent ≤ 100 ⌝ }
-    ensures { λ r. ⌜ r ≡ toPosition percent ⌝ }
+// The highest set bit: 7 less the leading zeros of an active byte, which is not 0 since backup is always active.
+pub fn ruling_rank(active: u8) -> u8
+    requires { ⌜ 1 ≤ active ⌝ }
+    ensures { λ r. ⌜ r ≡ rulingRank active ⌝ }
 {
-    (255 * (percent as u16) / 100) as u8
+    (7 - u8::leading_zeros(active)) as u8
 }
 
-pub fn to_percent(position: u8) -> u8
-    ensures { λ r. ⌜ r ≡ toPercent position ⌝ }
+// v brought into the Low to High of the parameters.
+pub fn limited(params: [u16; table::COUNT], v: u8) -> u8
+    requires { ⌜ Ranges params ⌝ }
+    ensures { λ r. ⌜ r ≡ within (low params) (high params) v ⌝ }
 {
-    (100 * (position as u16) / 255) as u8
+    motion::within(params[table::LOW] as u8, params[table::HIGH] as u8, v)
 }
 
-// K, the ticks of a run.
-pub fn run_ticks(rate: u16) -> u8
-    requires { ⌜ (1 ≤ rate) × (rate ≤ 255) ⌝ }
-    ensures { λ r. ⌜ r ≡ runTicks rate ⌝ }
+// Where backup leads: the present position, whether a setpoint exists and which, and the parameters tell.
+pub fn backup_target(position: u8, exists: bool, setpoint: u8, params: [u16; table::COUNT]) -> u8
+    requires { ⌜ Ranges params ⌝ }
+    ensures { λ r. ⌜ r ≡ backupTarget position exists setpoint params ⌝ }
 {
-    ((255 + (rate - 1)) / rate) as u8
+    let fixed = limited(
+        params,
+        motion::to_position(params[table::BACKUP_VALUE] as u8),
+    );
+    let last = pick8(exists, limited(params, setpoint), position);
+    pick8(params[table::BACKUP_MODE] == 0, fixed, last)
 }
 
-// v brought into low to high.
-pub fn within(low: u8, high: u8, v: u8) -> u8
-    ensures { λ r. ⌜ r ≡ within low high v ⌝ }
+// The run that a restart starts.
+pub fn start_run(synchronization: u16) -> u8
+    ensures { λ r. ⌜ r ≡ startRun synchronization ⌝ }
 {
-    numbers::max8(low, numbers::min8(high, v))
-}
-
-// One move.
-pub fn toward(position: u8, target: u8, rate: u8) -> u8
-    ensures { λ r. ⌜ r ≡ toward position target rate ⌝ }
-{
-    let step = numbers::min8(rate, numbers::distance(position, target));
-    if position < target {
-        position + step
-    } else {
-        position - step
-    }
-}
-
-pub fn motor(direction: u16, before: u8, after: u8) -> u8
-    ensures { λ r. ⌜ r ≡ motor direction before after ⌝ }
-{
-    let swapped = direction == 1;
     pick8(
-        before == after,
-        0,
-        pick8(before < after, pick8(swapped, 2, 1), pick8(swapped, 1, 2)),
+        synchronization == 1,
+        SYNC_CLOSE,
+        pick8(synchronization == 2, SYNC_OPEN, NO_RUN),
     )
 }
 

@@ -1,7 +1,7 @@
 // The parameter table: one constant of twelve rows, the search by number, the range rule and the fresh values.
 ghost use mathlib.Core.Path.{_≡_};
 ghost use Prim.Native.Nat.{_<_};
-ghost use Rattle.table.specs.Table.{rows, placeOf, rowAt, inRange, allIn, known, takes, freshValues};
+ghost use Rattle.table.specs.Table.{rows, placeOf, inRange, allIn, known, takes, freshValues};
 
 pub struct Row {
     pub number: u8,

@@ -1,7 +1,7 @@
 use Rattle.damper.specs.WellFormed.{runFits}
 use native.Mathlib.Nat.{lt-of-le-of-lt, mul-le-mul, le-pred-of-lt}
 use lib.Dec.{lit<}
-use Rattle.rules.specs.MotionLaws.{run-ticks-test}
+use Rattle.motion.specs.Laws.{run-ticks-test}
 use borrow.Author.Needs.{needs}
 use Rattle.damper.proofs.run_fits.Statement.{statement}
 use Rattle.damper.proofs.run_fits.Tie as tie

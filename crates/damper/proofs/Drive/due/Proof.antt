@@ -5,7 +5,7 @@ use Rattle.damper.proofs.Drive.due.Tie as tie
 
 returns : tie.Need-returns
 unfolding dueWith
-returns c = simp (c .before .before .changed .ensures)
+returns c = simp (c .before .before .before .before .changed .ensures)
 
 pub due-spec : {M : Type 1} → statement M
 due-spec = tie.close (tie.spec (λ c. search needs) (λ c κs. search needs) (λ c. search needs) (λ c. search needs) returns)

@@ -19,19 +19,16 @@ returns-2 c =
     (rw (← (c .before .refusal .ensures), ne-eqb (c .before .refusal .result) 0 (c .if2 .taken)))
 
 event-in-requires : tie.Need-event-in-requires
-event-in-requires c κs = record-passed _ (sym (c .before .refusal .ensures) ∙ c .if2 .left) .0
-
-state-refusal-requires : tie.Need-state-refusal-requires
-state-refusal-requires c κs = search needs
+event-in-requires c κs = record-passed _ (sym (c .before .before .refusal .ensures) ∙ c .before .if2 .left) .0
 
 returns-3 : tie.Need-returns-3
 unfolding refusalOf refusal
 returns-3 c =
-    let w = c .before .before .before .before .before .before .before .before .before .well-formed in
-    let n = c .before .before .before .before .before .before .before .refusal in
-    rw (← (w .ensures), not-false (w .result) (c .before .before .before .before .before .before .before .before .if1 .left))
-    (rw (← (n .ensures), eq-eqb (n .result) 0 (c .before .before .before .before .before .before .if2 .left))
-    (rw (c .state-refusal .ensures, c .before .forbids-run .ensures, c .before .before .before .before .before .event-in .ensures)))
+    let w = c .before .before .before .before .before .before .before .before .well-formed in
+    let n = c .before .before .before .before .before .before .refusal in
+    rw (← (w .ensures), not-false (w .result) (c .before .before .before .before .before .before .before .if1 .left))
+    (rw (← (n .ensures), eq-eqb (n .result) 0 (c .before .before .before .before .before .if2 .left))
+    (rw (c .state-refusal .ensures, c .before .forbids-run .ensures, c .before .before .before .event-in .ensures)))
 
 pub refusal-spec : {M : Type 1} → statement M
-refusal-spec = tie.close (tie.spec (λ c κs. search needs) returns (λ c κs. search needs) returns-2 event-in-requires (λ c. search needs) (λ c. search needs) (λ c. search needs) (λ c κs. search needs) state-refusal-requires returns-3)
+refusal-spec = tie.close (tie.spec (λ c κs. search needs) returns (λ c κs. search needs) returns-2 event-in-requires (λ c. search needs) (λ c. search needs) (λ c. search needs) (λ c κs. search needs) (λ c κs. search needs) returns-3)

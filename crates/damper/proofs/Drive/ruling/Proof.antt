@@ -5,8 +5,8 @@ use Rattle.damper.proofs.Drive.ruling.Tie as tie
 
 returns : tie.Need-returns
 returns c = (
-  simp (c .highest .ensures, c .before .active .ensures .0, c .before .before .bus-on .ensures),
-  rw (c .highest .ensures) (rank-below _ (c .before .active .ensures .1 .0) (c .before .active .ensures .1 .1)),
+  simp (c .ruling-rank .ensures, c .before .active .ensures .0, c .before .before .bus-on .ensures),
+  rw (c .ruling-rank .ensures) (rank-below _ (c .before .active .ensures .1 .0) (c .before .active .ensures .1 .1)),
 )
 
 pub ruling-spec : {M : Type 1} → statement M

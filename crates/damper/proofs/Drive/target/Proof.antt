@@ -33,7 +33,7 @@ returns-6 c = rw (c .before .match .keys6) (simp (c .limited3 .ensures))
 returns-7 : tie.Need-returns-7
 unfolding targetAt targets
 returns-7 c =
-    let z : c .before .before .args .rank ≡ 0 = omega arith in
+    let z : c .before .before .before .args .rank ≡ 0 = omega arith in
     rw z (simp (c .backup-target .ensures))
 
 pub target-spec : {M : Type 1} → statement M

@@ -6,7 +6,7 @@ use native.Mathlib.Nat.{div-le-of-le-mul, le-div-iff-mul-le, lt-of-not-le}
 use lib.Dec.{leb, ltb}
 use borrow.Author.Tests.{ltb-true, ltb-false, le-leb, lt-leb}
 use Rattle.numbers.specs.Laws.{cases}
-use Rattle.rules.specs.Motion as M
+use Rattle.motion.specs.Motion as M
 
 pub to-position-le : (p : ℕ) → p ≤ 100 → M.toPosition p ≤ 255
 unfolding M.toPosition

@@ -1,8 +1,8 @@
-use Rattle.rules.specs.Motion.{toPosition}
+use Rattle.motion.specs.Motion.{toPosition}
 use mathlib.Core.Path.{refl}
 use borrow.Author.Needs.{needs}
-use Rattle.rules.proofs.to_position.Statement.{statement}
-use Rattle.rules.proofs.to_position.Tie as tie
+use Rattle.motion.proofs.to_position.Statement.{statement}
+use Rattle.motion.proofs.to_position.Tie as tie
 
 returns : tie.Need-returns
 unfolding toPosition

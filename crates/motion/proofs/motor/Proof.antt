@@ -1,7 +1,7 @@
-use Rattle.rules.specs.Motion.{motor}
+use Rattle.motion.specs.Motion.{motor}
 use borrow.Author.Needs.{needs}
-use Rattle.rules.proofs.motor.Statement.{statement}
-use Rattle.rules.proofs.motor.Tie as tie
+use Rattle.motion.proofs.motor.Statement.{statement}
+use Rattle.motion.proofs.motor.Tie as tie
 
 returns : tie.Need-returns
 unfolding motor

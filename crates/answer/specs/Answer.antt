@@ -2,8 +2,8 @@
 use mathlib.Core.Bool.{Bool, true, false}
 use mathlib.Core.List.{List, [], _∷_}
 use Prim.Native.Nat.{ℕ, _+_, _*_}
-use Rattle.damper.specs.declared.Answer.{Answer}
-use Rattle.damper.specs.declared.Answer.the-variants.{No, Done, Par, At, Tick, Report}
+use Rattle.answer.specs.declared.Answer.{Answer}
+use Rattle.answer.specs.declared.Answer.the-variants.{No, Done, Par, At, Tick, Report}
 
 -- the number of the refusal, N of `no N`; 0 for an accepted event
 abbrev pub numberOf : Answer → ℕ

@@ -1,10 +1,10 @@
-use Rattle.rules.specs.Motion.{runTicks}
+use Rattle.motion.specs.Motion.{runTicks}
 use mathlib.Core.Path.{refl}
 use native.Mathlib.Omega.{arith}
-use Rattle.rules.specs.MotionLaws.{run-ticks-le}
+use Rattle.motion.specs.Laws.{run-ticks-le}
 use borrow.Author.Needs.{needs}
-use Rattle.rules.proofs.run_ticks.Statement.{statement}
-use Rattle.rules.proofs.run_ticks.Tie as tie
+use Rattle.motion.proofs.run_ticks.Statement.{statement}
+use Rattle.motion.proofs.run_ticks.Tie as tie
 
 cast-result : tie.Need-cast-result
 unfolding runTicks

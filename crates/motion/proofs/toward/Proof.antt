@@ -1,8 +1,8 @@
-use Rattle.rules.specs.Motion.{toward}
+use Rattle.motion.specs.Motion.{toward}
 use borrow.Author.Tests.{lt-ltb, le-ltb}
 use borrow.Author.Needs.{needs}
-use Rattle.rules.proofs.toward.Statement.{statement}
-use Rattle.rules.proofs.toward.Tie as tie
+use Rattle.motion.proofs.toward.Statement.{statement}
+use Rattle.motion.proofs.toward.Tie as tie
 
 returns : tie.Need-returns
 unfolding toward

@@ -1,6 +1,6 @@
 use borrow.Author.Needs.{needs}
-use Rattle.damper.proofs.Answer.code.Statement.{statement}
-use Rattle.damper.proofs.Answer.code.Tie as tie
+use Rattle.answer.proofs.Answer.code.Statement.{statement}
+use Rattle.answer.proofs.Answer.code.Tie as tie
 
 returns-4 : tie.Need-returns-4
 returns-4 c = rw (c .before .self3 .given .1)

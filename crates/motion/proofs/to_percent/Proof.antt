@@ -1,8 +1,8 @@
-use Rattle.rules.specs.Motion.{toPercent}
+use Rattle.motion.specs.Motion.{toPercent}
 use mathlib.Core.Path.{refl}
 use borrow.Author.Needs.{needs}
-use Rattle.rules.proofs.to_percent.Statement.{statement}
-use Rattle.rules.proofs.to_percent.Tie as tie
+use Rattle.motion.proofs.to_percent.Statement.{statement}
+use Rattle.motion.proofs.to_percent.Tie as tie
 
 returns : tie.Need-returns
 unfolding toPercent

@@ -1,0 +1,2 @@
+-- What an event is answered with.
+pub mod Answer
