@@ -1,6 +1,8 @@
 // The drive record: its fields, the fresh drive, when it is well formed, and its updates.
 ghost use mathlib.Core.Path.{_≡_};
 ghost use Prim.Native.Nat.{_<_, _≤_};
+ghost use lib.ListN.{length};
+ghost use Rattle.table.specs.Table.{rows};
 ghost use Rattle.motion.specs.Motion.{runTicks};
 ghost use Rattle.damper.specs.Record.{freshDrive, withCounts, withPosition, withRun, withReport, withParam, withSetpoint, withTool, withHand, withInterlocks, cleared};
 ghost use Rattle.damper.specs.WellFormed.{runFits, absentZero, wellFormed};
@@ -158,7 +160,7 @@ impl Drive {
     }
 
     pub fn with_param(mut self, place: usize, value: u16) -> Drive
-        requires { ⌜ place < 12 ⌝ }
+        requires { ⌜ place < length rows ⌝ }
         ensures { λ r. ⌜ r ≡ withParam self place value ⌝ }
     {
         self.params[place] = value;

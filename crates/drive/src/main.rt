@@ -5,54 +5,6 @@ use damper::Drive;
 use libc::STDIN_FILENO;
 use libc::STDOUT_FILENO;
 
-// The drive, how many records it was given, and how many bytes of the output are filled.
-struct Printed {
-    drive: Drive,
-    count: u64,
-    used: usize,
-}
-
-// Gives each six bytes of the input, and a shorter rest, to the drive, and prints the answers. The count stops at its last number.
-fn print_answers(first: Drive, given: u64, input: &[u8], out: &mut [u8]) -> Printed
-    ensures { λ r. ⌜ r .used ≤ length (now (out .exit)) ⌝ }
-{
-    let mut d = first;
-    let mut count = given;
-    let mut used: usize = 0;
-    let mut at: usize = 0;
-    while at < input.len() {
-        let end = at + record_length(input.len() - at);
-        let o = d.step(&input[at..end]);
-        let next = o.drive;
-        let answer = o.answer;
-        d = next;
-        count = one_more(count);
-        used = line::put_line(out, used, count, answer);
-        at = end;
-    }
-    Printed {
-        drive: d,
-        count: count,
-        used: used,
-    }
-}
-
-// How many of the bytes left are the next record's.
-fn record_length(left: usize) -> usize
-    requires { ⌜ 1 ≤ left ⌝ }
-    ensures { λ r. ⌜ (1 ≤ r) × (r ≤ left) ⌝ }
-{
-    if left < 6 { left } else { 6 }
-}
-
-fn one_more(count: u64) -> u64 {
-    if count < 0xffff_ffff_ffff_ffff {
-        count + 1
-    } else {
-        count
-    }
-}
-
 // Moves what follows the place `from` to the front: the bytes of a record that has not come whole.
 fn keep_rest(input: &mut [u8], from: usize, kept: usize)
     requires { ⌜ from + kept ≤ length (now input) ⌝ }
@@ -113,7 +65,7 @@ fn turn(s: State, input: &mut [u8], out: &mut [u8]) -> State {
     let have = arrived(got, input, kept);
     let part = waiting(got == 0, have);
     let whole = have - part;
-    let p = print_answers(before, s.count, &input[..whole], out);
+    let p = printer::print_answers(before, s.count, &input[..whole], out);
     let used = p.used;
     let next = p.drive;
     let written = io::write_all(STDOUT_FILENO, &out[..used]);

@@ -57,15 +57,6 @@ percent-most e h k c =
     ltb-false 100 (e .b)
     (rw (le-leb (e .c) 1 c) at (subst (λ (n : ℕ). E.badPercent n (e .b) (e .c) ≡ false) k (admitted e h .percent)))
 
--- a kind that is none of 1 to 10 is 11
-abbrev pub NoneOfTen : ℕ → Type 0
-NoneOfTen k = ((((((((((Unit {0} × (k ≡ 1 → ⊥)) × (k ≡ 2 → ⊥)) × (k ≡ 3 → ⊥)) × (k ≡ 4 → ⊥)) × (k ≡ 5 → ⊥)) × (k ≡ 6 → ⊥)) × (k ≡ 7 → ⊥)) × (k ≡ 8 → ⊥)) × (k ≡ 9 → ⊥)) × (k ≡ 10 → ⊥))
-
-pub kind-eleven : (e : Event) → E.dataRefusal e ≡ 0 → NoneOfTen (e .kind) → e .kind ≡ 11
-kind-eleven e h =
-    by-kind (λ (k : ℕ). NoneOfTen k → k ≡ 11) (λ n. absurd (n .0 .0 .0 .0 .0 .0 .0 .0 .0 .1 refl)) (λ n. absurd (n .0 .0 .0 .0 .0 .0 .0 .0 .1 refl)) (λ n. absurd (n .0 .0 .0 .0 .0 .0 .0 .1 refl)) (λ n. absurd (n .0 .0 .0 .0 .0 .0 .1 refl)) (λ n. absurd (n .0 .0 .0 .0 .0 .1 refl)) (λ n. absurd (n .0 .0 .0 .0 .1 refl)) (λ n. absurd (n .0 .0 .0 .1 refl)) (λ n. absurd (n .0 .0 .1 refl)) (λ n. absurd (n .0 .1 refl)) (λ n. absurd (n .1 refl)) (λ n. refl)
-    (e .kind) (admitted e h .kind)
-
 -- bytes that none of 2 to 8 fits are six and hold such an event
 pub record-passed : (s : List ℕ) → E.recordRefusal s ≡ 0 → (length s ≡ 6) × (E.dataRefusal (E.eventIn s) ≡ 0)
 unfolding E.recordRefusal

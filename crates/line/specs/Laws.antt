@@ -6,12 +6,10 @@ use Prim.Native.Nat.{ℕ, zero, suc, _+_, _*_, _/_, _%_, _^_, _≤_, _<_}
 use native.Mathlib.Omega.{arith}
 use native.Mathlib.Nat.{pow-succ', add-assoc}
 use native.Mathlib.Numerals.{add-one}
-use lib.Dec.{leb, ltb}
+use lib.Dec.{ltb}
 use borrow.Author.Tests.{lt-ltb, le-ltb, ltb-true, ltb-false}
 use lib.ListN.{length, take, drop, set, length-append}
 use lib.Seq.{length-take-le, take-at, drop-at, drop-drop, set-split}
-use Rattle.numbers.specs.Numbers.{pick}
-use Rattle.answer.specs.declared.Answer.{Answer}
 use Rattle.answer.specs.declared.Answer.the-variants.{No, Done, Par, At, Tick, Report}
 use Rattle.line.specs.Line as L
 
@@ -129,12 +127,3 @@ after-that {d} {e} {f} {at} {p} {q} {xs} {ys} v w h =
       place = rw (length-append xs ys) (omega (arith, v .place, w .place));
       buffer = w .buffer ∙ rw (v .buffer, v .place) (write-write d at xs ys (omega (arith, v .place)));
     }
-
--- a line that keeps the buffer's length ends within it
-pub end-within : (d : List ℕ) (at count : ℕ) (a : Answer) → length (L.putLine d at count a) ≡ length d → at ≤ length d → L.endOf d at count a ≤ length d
-unfolding L.endOf L.putLine
-end-within d at count a e h = go (leb (at + 64) (length d)) e
-  where
-    go : (t : Bool) → length (pick t (L.writeAt d at (L.lineOf count a)) d) ≡ length d → pick t (at + length (L.lineOf count a)) at ≤ length d
-    go true k = omega (arith, length-take-le at d h, simp (length-append (take at d ++ L.lineOf count a), length-append (take at d)) at k)
-    go false k = h

@@ -1,6 +1,7 @@
 -- Document 01, 'What the drive program prints': a line as its bytes, and where in a buffer it goes.
 use mathlib.Core.Path.{_≡_}
 use mathlib.Core.List.{List, [], _∷_, _++_}
+use mathlib.Core.Bool.{Bool}
 use Prim.Native.Nat.{ℕ, zero, suc, _+_, _/_, _%_}
 use lib.Dec.{leb, ltb}
 use lib.ListN.{length, take, drop}
@@ -58,10 +59,14 @@ pub record Written (before after : List ℕ) (at end : ℕ) (bytes : List ℕ) :
   pub place : end ≡ at + length bytes
   pub buffer : after ≡ writeAt before at bytes
 
--- a line goes into the buffer where at least 64 bytes are free from `at` on; else the buffer is as it was
+-- at least 64 bytes are free from `at` on
+abbrev pub roomAt : List ℕ → ℕ → Bool
+roomAt buf at = leb (at + 64) (length buf)
+
+-- a line goes into the buffer where there is room; else the buffer is as it was
 unfoldable pub putLine : List ℕ → ℕ → ℕ → Answer → List ℕ
-putLine buf at count a = pick (leb (at + 64) (length buf)) (writeAt buf at (lineOf count a)) buf
+putLine buf at count a = pick (roomAt buf at) (writeAt buf at (lineOf count a)) buf
 
 -- the place after the line, or `at` where it does not go in
 unfoldable pub endOf : List ℕ → ℕ → ℕ → Answer → ℕ
-endOf buf at count a = pick (leb (at + 64) (length buf)) (at + length (lineOf count a)) at
+endOf buf at count a = pick (roomAt buf at) (at + length (lineOf count a)) at

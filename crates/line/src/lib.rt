@@ -114,6 +114,7 @@ fn put_answer(out: &mut [u8], at: usize, answer: Answer) -> usize
 // ROOM bytes are free from there on.
 pub fn put_line(out: &mut [u8], at: usize, count: u64, answer: Answer) -> usize
     ensures end { λ r. ⌜ r ≡ endOf (now (out .entry)) at count answer ⌝ }
+    ensures short { λ r. ⌜ r ≤ at + 64 ⌝ }
     ensures bytes { λ _. ⌜ now (out .exit) ≡ putLine (now (out .entry)) at count answer ⌝ }
 {
     if out.len() < at {

@@ -55,8 +55,8 @@ rankIn (Tick p r m) = r
 rankIn (Report p r m s) = r
 
 -- position, run and ticks left
-abbrev pub runOf : Drive → List ℕ
-runOf d = d .position ∷ d .run ∷ d .left ∷ []
+abbrev pub standing : Drive → List ℕ
+standing d = d .position ∷ d .run ∷ d .left ∷ []
 
 abbrev pub table : List Row
 table =
@@ -83,7 +83,7 @@ table =
     -- m11 forcing 2, calibration: 13.
     ∷ row (answers (fromFresh (bytes 4 2 0 0 ∷ bytes 6 0 0 0 ∷ []))) (answers (Done ∷ No 13 ∷ []))
     -- m12 StartSynchronization 2, restart, 51 ticks: position 255, no run.
-    ∷ row (numbers (runOf (driveAfter freshDrive (outcomes freshDrive (bytes 8 122 0 2 ∷ bytes 9 0 0 0 ∷ replicate 51 tick))))) (numbers (255 ∷ 0 ∷ 0 ∷ []))
+    ∷ row (numbers (standing (driveAfter freshDrive (outcomes freshDrive (bytes 8 122 0 2 ∷ bytes 9 0 0 0 ∷ replicate 51 tick))))) (numbers (255 ∷ 0 ∷ 0 ∷ []))
     ∷ []
 
 -- Each row holds.

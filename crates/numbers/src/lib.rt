@@ -35,6 +35,12 @@ pub fn min8(a: u8, b: u8) -> u8
     if a < b { a } else { b }
 }
 
+pub fn min_size(a: usize, b: usize) -> usize
+    ensures { λ r. ⌜ r ≡ min a b ⌝ }
+{
+    if a < b { a } else { b }
+}
+
 pub fn max8(a: u8, b: u8) -> u8
     ensures { λ r. ⌜ r ≡ max a b ⌝ }
 {

@@ -1,49 +1,21 @@
--- Laws of the records of a row of bytes, and of one turn and the end of the loop over them.
-use mathlib.Core.Path.{_≡_, refl, sym, ap, _∙_}
+-- Laws of one turn and of the end of the loop over the records.
+use mathlib.Core.Path.{_≡_, refl, sym, _∙_}
 use mathlib.Core.List.{List, [], _∷_, _++_}
-use Prim.Native.Nat.{ℕ, suc, _+_, _-_, _<_, _≤_, min}
+use Prim.Native.Nat.{ℕ, suc, _+_, _-_, _<_, min}
 use native.Mathlib.Omega.{arith}
-use native.Mathlib.Nat.{not-suc-le-zero, add-sub-cancel-left}
+use native.Mathlib.Nat.{add-sub-cancel-left}
 use native.Mathlib.Numerals.{add-one}
-use lib.ListN.{length, take, drop, set, drop-of-length-le, take-append-drop, length-take, length-drop}
-use lib.Seq.{drop-drop, take-nil, drop-cons, append-snoc, take-at, drop-at, take-suc-set, drop-set-lt}
+use lib.ListN.{length, take, drop, set, take-append-drop}
+use lib.Seq.{drop-cons, append-snoc, take-suc-set, drop-set-lt}
 use Rattle.answer.specs.declared.Answer.{Answer}
 use Rattle.damper.specs.declared.Drive.{Drive}
 use Rattle.damper.specs.declared.Outcome.{Outcome}
 use Rattle.answer.specs.Answer.{wordOf, codeOf}
 use Rattle.damper.specs.Step.{stepOf}
+use Rattle.event.specs.Records.{recordsOf}
+use Rattle.event.specs.RecordLaws.{left-more}
 use Rattle.history.specs.Claim.{outcomes, driveAfter}
-use Rattle.replay.specs.Replay.{recordsOf, rowAfter}
-
--- a row that is not empty: its first six bytes, or fewer where it has fewer, and the records of the rest
-pub records-cons : (s : List ℕ) → 0 < length s → recordsOf s ≡ take 6 s ∷ recordsOf (drop 6 s)
-unfolding recordsOf
-records-cons [] h = absurd (not-suc-le-zero h)
-records-cons (a ∷ []) h = refl
-records-cons (a ∷ b ∷ []) h = refl
-records-cons (a ∷ b ∷ c ∷ []) h = refl
-records-cons (a ∷ b ∷ c ∷ d ∷ []) h = refl
-records-cons (a ∷ b ∷ c ∷ d ∷ e ∷ []) h = refl
-records-cons (a ∷ b ∷ c ∷ d ∷ e ∷ f ∷ s) h = refl
-
--- `n` elements or fewer, where there are fewer, said by their number
-take-count : (n m : ℕ) (l : List ℕ) → length (take n l) ≡ m → take m l ≡ take n l
-take-count n m l e = ap (take m) (sym (take-append-drop n l)) ∙ take-at (take n l) (drop n l) m e
-
-drop-count : (n m : ℕ) (l : List ℕ) → length (take n l) ≡ m → drop m l ≡ drop n l
-drop-count n m l e = ap (drop m) (sym (take-append-drop n l)) ∙ drop-at (take n l) (drop n l) m e
-
--- the records left at place `at` of the bytes: none, or one and those behind it
-pub left-none : (n : ℕ) (s : List ℕ) (at : ℕ) → length s ≤ at → take n (recordsOf (drop at s)) ≡ []
-unfolding recordsOf
-left-none n s at h = rw (drop-of-length-le s h) (take-nil n)
-
-left-more : (room i : ℕ) (s : List ℕ) (at m : ℕ) → i < room → at < length s → m ≡ min (length s - at) 6
-    → take (room - i) (recordsOf (drop at s)) ≡ take m (drop at s) ∷ take (room - (i + 1)) (recordsOf (drop (at + m) s))
-left-more room i s at m h k e =
-    let more : room - i ≡ suc (room - (i + 1)) = omega arith in
-    let size : length (take 6 (drop at s)) ≡ m = simp (length-take, length-drop) (omega arith) in
-    rw (records-cons (drop at s) (simp length-drop (omega arith)), more, ← drop-drop m at s, take-count 6 m (drop at s) size, drop-count 6 m (drop at s) size)
+use Rattle.replay.specs.Replay.{rowAfter}
 
 -- What the drive `d` makes of the records `l` left, with `i` places of the rows `w` and `c` filled, is what is asked from the start.
 pub record Same (d₀ : Drive) (l₀ : List (List ℕ)) (words₀ codes₀ : List ℕ) (i : ℕ) (d : Drive) (l : List (List ℕ)) (w c : List ℕ) : Type 0 where

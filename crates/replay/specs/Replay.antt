@@ -1,20 +1,11 @@
 -- A drive carried over a row of bytes, and the answers as rows of numbers.
-use mathlib.Core.List.{List, [], _∷_, _++_, map}
+use mathlib.Core.List.{List, _++_, map}
 use Prim.Native.Nat.{ℕ, min}
 use lib.ListN.{length, take, drop}
 use Rattle.answer.specs.declared.Answer.{Answer}
 use Rattle.damper.specs.declared.Drive.{Drive}
+use Rattle.event.specs.Records.{recordsOf}
 use Rattle.history.specs.Claim.{outcomes}
-
--- the event records of a row of bytes: six bytes at a time, and a shorter rest
-unfoldable pub recordsOf : List ℕ → List (List ℕ)
-recordsOf [] = []
-recordsOf (a ∷ []) = (a ∷ []) ∷ []
-recordsOf (a ∷ b ∷ []) = (a ∷ b ∷ []) ∷ []
-recordsOf (a ∷ b ∷ c ∷ []) = (a ∷ b ∷ c ∷ []) ∷ []
-recordsOf (a ∷ b ∷ c ∷ d ∷ []) = (a ∷ b ∷ c ∷ d ∷ []) ∷ []
-recordsOf (a ∷ b ∷ c ∷ d ∷ e ∷ []) = (a ∷ b ∷ c ∷ d ∷ e ∷ []) ∷ []
-recordsOf (a ∷ b ∷ c ∷ d ∷ e ∷ f ∷ s) = (a ∷ b ∷ c ∷ d ∷ e ∷ f ∷ []) ∷ recordsOf s
 
 -- the records that are carried out: as many as both rows have room for
 abbrev pub carried : List ℕ → List ℕ → List ℕ → List (List ℕ)

@@ -1,7 +1,6 @@
 // A drive carried over a row of event records. (A crate of its own: the compiler puts the step in line where an archive has one
 // call of it.)
 ghost use mathlib.Core.Path.{_≡_};
-ghost use Prim.Native.Nat.{min};
 ghost use lib.ListN.{length};
 ghost use Rattle.answer.specs.Answer.{wordOf, codeOf};
 ghost use Rattle.history.specs.Claim.{outcomes, driveAfter};
@@ -15,12 +14,6 @@ pub struct Replayed {
     pub count: usize,
 }
 
-fn least(a: usize, b: usize) -> usize
-    ensures { λ r. ⌜ r ≡ min a b ⌝ }
-{
-    if a < b { a } else { b }
-}
-
 // Gives the records of s, six bytes each and a shorter rest, to the drive one after the other, as many as both rows have room
 // for, and writes each answer's word and its values to the rows. Further places of the rows keep their content.
 pub fn replay(mut d: Drive, s: &[u8], words: &mut [u8], codes: &mut [u32]) -> Replayed
@@ -29,7 +22,7 @@ pub fn replay(mut d: Drive, s: &[u8], words: &mut [u8], codes: &mut [u32]) -> Re
     ensures words { λ _. ⌜ now (words .exit) ≡ rowAfter wordOf d (carried (now (s .entry)) (now (words .entry)) (now (codes .entry))) (now (words .entry)) ⌝ }
     ensures codes { λ _. ⌜ now (codes .exit) ≡ rowAfter codeOf d (carried (now (s .entry)) (now (words .entry)) (now (codes .entry))) (now (codes .entry)) ⌝ }
 {
-    let room = least(words.len(), codes.len());
+    let room = numbers::min_size(words.len(), codes.len());
     let mut i: usize = 0;
     let mut at: usize = 0;
     while i < room {
@@ -37,7 +30,7 @@ pub fn replay(mut d: Drive, s: &[u8], words: &mut [u8], codes: &mut [u32]) -> Re
         if left == 0 {
             break;
         }
-        let end = at + least(left, 6);
+        let end = at + numbers::min_size(left, 6);
         let o = d.step(&s[at..end]);
         let next = o.drive;
         let a = o.answer;

@@ -15,11 +15,11 @@ twenty c = decimal-length 20 (c .args .count) (omega arith) (omega arith)
 
 returns : tie.Need-returns
 unfolding endOf putLine
-returns c = rw (lt-leb (c .before .before .args .at + 64) (length (c .before .before .args .out .now)) (omega arith)) (refl, refl)
+returns c = rw (lt-leb (c .before .before .args .at + 64) (length (c .before .before .args .out .now)) (omega arith)) (refl, (omega arith, refl))
 
 returns-2 : tie.Need-returns-2
 unfolding endOf putLine
-returns-2 c = rw (lt-leb (c .before .before .before .args .at + 64) (length (c .before .before .before .args .out .now)) (omega arith)) (refl, refl)
+returns-2 c = rw (lt-leb (c .before .before .before .args .at + 64) (length (c .before .before .before .args .out .now)) (omega arith)) (refl, (omega arith, refl))
 
 put-decimal-requires : tie.Need-put-decimal-requires
 put-decimal-requires c κs = omega (arith, twenty (c .before .before .before .before))
@@ -38,7 +38,7 @@ returns-3 c =
     let text = c .before .before .before .before .before .before .put-answer .ensures in
     let feed = c .before .before .put-byte .ensures in
     let line = after-that count (after-that (text .0) feed (omega (arith, twenty (c .before .before .before .before .before .before .before .before .before .before .before .before .before .before .before)))) (omega (arith, twenty (c .before .before .before .before .before .before .before .before .before .before .before .before .before .before .before))) in
-    rw (le-leb (a .at + 64) (length (a .out .now)) (omega arith)) (line .place, line .buffer)
+    rw (le-leb (a .at + 64) (length (a .out .now)) (omega arith)) (line .place, (omega (arith, twenty (c .before .before .before .before .before .before .before .before .before .before .before .before .before .before .before)), line .buffer))
 
 pub put-line-spec : {M : Type 1} → statement M
 put-line-spec = tie.close (tie.spec returns (λ c. search needs) returns-2 put-decimal-requires put-answer-requires put-byte-requires (λ c. search needs) returns-3)

@@ -5,8 +5,10 @@ use Prim.Native.Nat.{_≤_, _-_}
 use native.Mathlib.Nat.{sub-zero}
 use native.Mathlib.Omega.{arith}
 use lib.ListN.{length, take, drop}
-use Rattle.replay.specs.Replay.{recordsOf, carried}
-use Rattle.replay.specs.Laws.{Same, start, turn, done, left-none}
+use Rattle.replay.specs.Replay.{carried}
+use Rattle.replay.specs.Laws.{Same, start, turn, done}
+use Rattle.event.specs.Records.{recordsOf}
+use Rattle.event.specs.RecordLaws.{left-none}
 use Rattle.replay.proofs.replay.Statement.{statement}
 use Rattle.replay.proofs.replay.Tie as tie
 
@@ -23,19 +25,19 @@ abbrev μ-loop : tie.MeasureT-loop
 loop-holds : tie.Need-loop-holds Inv-loop μ-loop
 loop-holds c =
     let a = c .before .before .before .before .args in
-    (omega arith, refl, refl, rw (sub-zero, c .least .ensures) (start (a .d) _ (a .words .now) (a .codes .now)))
+    (omega arith, refl, refl, rw (sub-zero, c .min-size .ensures) (start (a .d) _ (a .words .now) (a .codes .now)))
 
 loop-again : tie.Need-loop-again Inv-loop μ-loop
 loop-again c =
     let step = c .before .before .before .step in
-    let size = c .before .before .before .before .before .least2 in
+    let size = c .before .before .before .before .before .min-size2 in
     let g = c .before .before .before .before .before .before .before .before in
     let l = g .loop in
     let a = g .before .before .before .before .before .args in (
       search needs,
       search needs,
       search needs,
-      turn (a .d) _ (a .words .now) (a .codes .now) (g .before .least .result) (l .i) (l .d) (a .s .now) (l .at) (l .words) (l .codes)
+      turn (a .d) _ (a .words .now) (a .codes .now) (g .before .min-size .result) (l .i) (l .d) (a .s .now) (l .at) (l .words) (l .codes)
           (size .result) (step .result) (c .before .word .result) (c .code .result) (omega arith) (omega arith) (omega arith) (omega arith)
           (size .ensures) (step .ensures) (c .before .word .ensures) (c .code .ensures) (l .inv .3),
     )
@@ -46,7 +48,7 @@ returns c =
     let l = c .before .loop in
     let g = c .before .before in
     let a = g .before .before .before .before .args in
-    let none : g .least .result - l .i ≡ 0 = omega arith in
+    let none : g .min-size .result - l .i ≡ 0 = omega arith in
     done (a .d) _ (a .words .now) (a .codes .now) (l .i) (l .d) (l .words) (l .codes) (rw none at (l .inv .3))
 
 -- no bytes are left
@@ -55,7 +57,7 @@ returns-2 c =
     let l = c .before .before .loop in
     let g = c .before .before .before in
     let a = g .before .before .before .before .args in
-    let none = left-none (g .least .result - l .i) (a .s .now) (l .at) (omega arith) in
+    let none = left-none (g .min-size .result - l .i) (a .s .now) (l .at) (omega arith) in
     done (a .d) _ (a .words .now) (a .codes .now) (l .i) (l .d) (l .words) (l .codes) (rw none at (l .inv .3))
 
 pub replay-spec : {M : Type 1} → statement M

@@ -10,7 +10,7 @@ commanded-requires c κs = percent-most (c .before .args .e) (c .before .pre .1)
 
 with-param-requires : tie.Need-with-param-requires
 with-param-requires c κs =
-    rw (c .before .place-of .ensures) (ltb-true _ 12 (known-write (c .before .before .before .args .e) (c .before .before .before .pre .1) (c .before .before .match .keys7)))
+    rw (c .before .place-of .ensures) (ltb-true _ _ (known-write (c .before .before .before .args .e) (c .before .before .before .pre .1) (c .before .before .match .keys7)))
 
 returns : tie.Need-returns
 unfolding obeyed

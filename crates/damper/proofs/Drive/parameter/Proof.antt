@@ -5,7 +5,7 @@ use Rattle.damper.proofs.Drive.parameter.Statement.{statement}
 use Rattle.damper.proofs.Drive.parameter.Tie as tie
 
 place : (c : tie.After-place-of) → c .place-of .result < 12
-place c = rw (c .place-of .ensures) (ltb-true _ 12 (c .before .before .pre))
+place c = rw (c .place-of .ensures) (ltb-true _ _ (c .before .before .pre))
 
 mul-result : tie.Need-mul-result
 mul-result c = let l : c .place-of .result < 12 = place c in search needs

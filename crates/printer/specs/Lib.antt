@@ -1,0 +1,3 @@
+-- The printed lines of a row of event records.
+pub mod Page
+pub mod Laws

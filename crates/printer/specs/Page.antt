@@ -1,0 +1,30 @@
+-- Document 01, 'What the drive program prints': the lines of a row of event records, counted on.
+use mathlib.Core.List.{List, [], _∷_, _++_}
+use Prim.Native.Nat.{ℕ, _+_, _/_}
+use lib.Dec.{ltb}
+use lib.ListN.{length, take, drop}
+use Rattle.numbers.specs.Numbers.{pick}
+use Rattle.event.specs.Records.{recordsOf}
+use Rattle.damper.specs.declared.Outcome.{Outcome}
+use Rattle.line.specs.Line.{lineOf}
+
+-- the count of the next record, which stops at the last number of 64 bits
+unfoldable pub counted : ℕ → ℕ
+counted n = pick (ltb n 18446744073709551615) (n + 1) n
+
+unfoldable pub countAfter : ℕ → List Outcome → ℕ
+countAfter n [] = n
+countAfter n (o ∷ os) = countAfter (counted n) os
+
+-- "one line per record", `n` records having been given before: "Each line is the record's count from 1"
+unfoldable pub linesAfter : ℕ → List Outcome → List ℕ
+linesAfter n [] = []
+linesAfter n (o ∷ os) = lineOf (counted n) (o .answer) ++ linesAfter (counted n) os
+
+-- the buffer with these lines at its front, and everything behind them kept
+unfoldable pub pageAfter : ℕ → List Outcome → List ℕ → List ℕ
+pageAfter n os buf = linesAfter n os ++ drop (length (linesAfter n os)) buf
+
+-- the records that are answered: as many as the buffer has room for, 64 bytes for each
+abbrev pub answered : List ℕ → List ℕ → List (List ℕ)
+answered s buf = take (length buf / 64) (recordsOf s)
