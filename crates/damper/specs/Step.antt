@@ -73,12 +73,14 @@ applied d e =
     (pick (eqb (e .kind) 11) (outcome d (Par (getD (d .params) (placeOf (e .a)) 0)))
     (done (obeyed d e))))
 
+-- the first of 2 to 13 that fits by what the record holds, 0 if none does
+abbrev pub judgedBy : Drive → List ℕ → ℕ
+judgedBy d s =
+    refusal s (damperMode (d .params)) (low (d .params)) (high (d .params)) (running (d .run)) (forbidsRun (d .fault) (d .forcing))
+
 -- the first of 1 to 13 that fits, 0 if none does; 1: "The drive record is not well formed."
 unfoldable pub refusalOf : Drive → List ℕ → ℕ
-refusalOf d s =
-    pick (wellFormed d)
-    (refusal s (damperMode (d .params)) (low (d .params)) (high (d .params)) (running (d .run)) (forbidsRun (d .fault) (d .forcing)))
-    1
+refusalOf d s = pick (wellFormed d) (judgedBy d s) 1
 
 -- "The answer is the first that fits and the same drive record."
 unfoldable pub stepOf : Drive → List ℕ → Outcome

@@ -20,12 +20,9 @@ aged d = withCounts d (pick (d .bus) (next (d .age)) (d .age)) (next (d .since))
 abbrev pub busOn : Drive → Bool
 busOn d = busActive (d .bus) (d .age) (timeout (d .params))
 
--- the active byte and the ruling rank of the record as it is
-abbrev pub activeIn : Drive → ℕ
-activeIn d = activeByte (d .fault) (d .forcing) (d .run) (d .hand) (d .tool) (busOn d)
-
+-- the ruling rank of the record as it is
 abbrev pub ruling : Drive → ℕ
-ruling d = rulingRank (activeIn d)
+ruling d = rulingRank (activeByte (d .fault) (d .forcing) (d .run) (d .hand) (d .tool) (busOn d))
 
 -- the target at a rank
 unfoldable pub targetAt : Drive → ℕ → ℕ

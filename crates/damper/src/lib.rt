@@ -101,6 +101,7 @@ impl Drive {
         ensures { λ r. ⌜ r ≡ wellFormed self ⌝ }
     {
         let params = self.params;
+        // Tested first: K has no meaning where Rate is 0.
         if !table::all_in(params) {
             return false;
         }
@@ -159,7 +160,7 @@ impl Drive {
         self
     }
 
-    pub fn with_param(mut self, place: usize, value: u16) -> Drive
+    pub(crate) fn with_param(mut self, place: usize, value: u16) -> Drive
         requires { ⌜ place < length rows ⌝ }
         ensures { λ r. ⌜ r ≡ withParam self place value ⌝ }
     {
@@ -221,5 +222,5 @@ fn run_fits(run: u8, left: u8, rate: u16, forbidden: bool) -> bool
 {
     let bounded = (left as u32) * (rate as u32) < 255 + rate as u32;
     let going = (1 <= left) & bounded & !forbidden;
-    (run <= 3) & numbers::pick_bool(run != rules::NO_RUN, going, left == 0)
+    (run <= rules::SYNC_OPEN) & numbers::pick_bool(run != rules::NO_RUN, going, left == 0)
 }

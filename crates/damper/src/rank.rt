@@ -46,7 +46,7 @@ impl Drive {
     }
 
     // The target at a rank.
-    pub fn target(self, rank: u8) -> u8
+    pub(crate) fn target(self, rank: u8) -> u8
         requires { ⌜ Ranges (self .params) ⌝ }
         requires { ⌜ rank < 7 ⌝ }
         ensures { λ r. ⌜ r ≡ targetAt self rank ⌝ }

@@ -6,7 +6,7 @@ ghost use lib.ListN.{getD};
 ghost use Rattle.table.specs.Table.{known, placeOf};
 ghost use Rattle.table.specs.Laws.{Ranges};
 ghost use Rattle.event.specs.Event.{dataRefusal};
-ghost use Rattle.damper.specs.Step.{ticked, commanded, calibrated, restarted, obeyed, applied, refusalOf, stepOf};
+ghost use Rattle.damper.specs.Step.{commanded, calibrated, restarted, obeyed, applied, refusalOf, stepOf};
 use crate::Drive;
 use crate::Outcome;
 use answer::Answer;
@@ -14,45 +14,14 @@ use event::Event;
 use numbers::pick8;
 
 impl Drive {
-    // Kind 1.
-    fn tick(self) -> Outcome
-        requires { ⌜ Ranges (self .params) ⌝ }
-        ensures { λ r. ⌜ r ≡ ticked self ⌝ }
-    {
-        let a = self.advance();
-        let d = a.drive;
-        let status = d.status();
-        if d.due(status) {
-            Outcome {
-                drive: d.with_report(status),
-                answer: Answer::Report {
-                    position: d.position,
-                    rank: a.rank,
-                    motor: a.motor,
-                    status: status,
-                },
-            }
-        } else {
-            Outcome {
-                drive: d,
-                answer: Answer::Tick {
-                    position: d.position,
-                    rank: a.rank,
-                    motor: a.motor,
-                },
-            }
-        }
-    }
-
     // Kind 3: a normal write, an override or a release.
     fn commanded(self, percent: u8, command: u8) -> Drive
         requires { ⌜ (command ≤ 1 → percent ≤ 100) ⌝ }
         ensures { λ r. ⌜ r ≡ commanded self percent command ⌝ }
     {
         if command == event::NORMAL {
-            return self.with_setpoint(motion::to_position(percent));
-        }
-        if command == event::OVERRIDE {
+            self.with_setpoint(motion::to_position(percent))
+        } else if command == event::OVERRIDE {
             self.with_tool(true, motion::to_position(percent))
         } else {
             self.with_tool(false, 0)

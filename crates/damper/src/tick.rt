@@ -1,10 +1,13 @@
-// The parts of a tick: advance (steps 1 to 3), due and, as `with_report`, the report of step 4.
+// A tick: advance (steps 1 to 3), due and, as `with_report`, the report of step 4.
 ghost use mathlib.Core.Path.{_≡_};
 ghost use Prim.Native.Nat.{_<_};
 ghost use Rattle.table.specs.Laws.{Ranges};
 ghost use Rattle.damper.specs.Tick.{aged, moved, ranDown, advance, statusOf, dueWith};
+ghost use Rattle.damper.specs.Step.{ticked};
 use crate::Advanced;
 use crate::Drive;
+use crate::Outcome;
+use answer::Answer;
 use numbers::next16;
 use numbers::pick8;
 use numbers::pick16;
@@ -47,7 +50,7 @@ impl Drive {
     }
 
     // Steps 1 to 3.
-    pub fn advance(self) -> Advanced
+    pub(crate) fn advance(self) -> Advanced
         requires { ⌜ Ranges (self .params) ⌝ }
         ensures { λ r. ⌜ r ≡ advance self ⌝ }
     {
@@ -81,7 +84,7 @@ impl Drive {
     }
 
     // Whether a report is due after steps 1 to 3, which left this status.
-    pub fn due(self, status: u8) -> bool
+    pub(crate) fn due(self, status: u8) -> bool
         ensures { λ r. ⌜ r ≡ dueWith self status ⌝ }
     {
         let params = self.params;
@@ -91,5 +94,35 @@ impl Drive {
                 | changed
                 | (status != self.laststatus)
                 | (params[table::REP_PER] <= self.since))
+    }
+
+    // Kind 1.
+    pub(crate) fn tick(self) -> Outcome
+        requires { ⌜ Ranges (self .params) ⌝ }
+        ensures { λ r. ⌜ r ≡ ticked self ⌝ }
+    {
+        let a = self.advance();
+        let d = a.drive;
+        let status = d.status();
+        if d.due(status) {
+            Outcome {
+                drive: d.with_report(status),
+                answer: Answer::Report {
+                    position: d.position,
+                    rank: a.rank,
+                    motor: a.motor,
+                    status: status,
+                },
+            }
+        } else {
+            Outcome {
+                drive: d,
+                answer: Answer::Tick {
+                    position: d.position,
+                    rank: a.rank,
+                    motor: a.motor,
+                },
+            }
+        }
     }
 }

@@ -1,13 +1,24 @@
 // Document 01's program: event records from standard input, a printed line for each to standard output.
-ghost use Prim.Native.Nat.{_+_, _≤_};
-ghost use lib.ListN.{length};
+ghost use mathlib.Core.Path.{_≡_};
+ghost use mathlib.Core.List.{_++_};
+ghost use Prim.Native.Nat.{_+_, _%_, _≤_};
+ghost use lib.ListN.{length, take, drop};
+ghost use Rattle.numbers.specs.Numbers.{pick};
 use damper::Drive;
 use libc::STDIN_FILENO;
 use libc::STDOUT_FILENO;
 
+// How many records are answered with one write, and the bytes that they and their lines need.
+const RECORDS: usize = 1024;
+
+const INPUT: usize = RECORDS * event::LENGTH;
+
+const OUTPUT: usize = RECORDS * line::ROOM;
+
 // Moves what follows the place `from` to the front: the bytes of a record that has not come whole.
 fn keep_rest(input: &mut [u8], from: usize, kept: usize)
     requires { ⌜ from + kept ≤ length (now input) ⌝ }
+    ensures { λ _. ⌜ now (input .exit) ≡ take kept (drop from (now (input .entry))) ++ drop kept (now (input .entry)) ⌝ }
 {
     let mut i: usize = 0;
     while i < kept {
@@ -25,11 +36,21 @@ struct State {
     on: bool,
 }
 
+fn stopped(drive: Drive, count: u64) -> State {
+    State {
+        drive: drive,
+        count: count,
+        kept: 0,
+        on: false,
+    }
+}
+
 // How many bytes wait for the rest of their record: none where the input has ended.
 fn waiting(ended: bool, have: usize) -> usize
-    ensures { λ r. ⌜ r ≤ have ⌝ }
+    ensures value { λ r. ⌜ r ≡ pick ended 0 (have % 6) ⌝ }
+    ensures bound { λ r. ⌜ r ≤ have ⌝ }
 {
-    if ended { 0 } else { have % 6 }
+    if ended { 0 } else { have % event::LENGTH }
 }
 
 // How many bytes there are after a read into the part of the input from `kept` on.
@@ -45,22 +66,13 @@ fn arrived(got: isize, input: &[u8], kept: usize) -> usize
 fn turn(s: State, input: &mut [u8], out: &mut [u8]) -> State {
     let kept = s.kept;
     let before = s.drive;
+    // Never so; the test is there for the proof of the read.
     if input.len() < kept {
-        return State {
-            drive: before,
-            count: s.count,
-            kept: 0,
-            on: false,
-        };
+        return stopped(before, s.count);
     }
     let got = libc::read(STDIN_FILENO, &mut input[kept..]);
     if got < 0 {
-        return State {
-            drive: before,
-            count: s.count,
-            kept: 0,
-            on: false,
-        };
+        return stopped(before, s.count);
     }
     let have = arrived(got, input, kept);
     let part = waiting(got == 0, have);
@@ -78,10 +90,11 @@ fn turn(s: State, input: &mut [u8], out: &mut [u8]) -> State {
     }
 }
 
-// The output has room for the longest line of each record that the input has room for.
+// The output has room for the longest line of each record that the input has room for. The countdown, which no input outlasts, is
+// there for the proof that main returns.
 fn main() {
-    let mut input = [0u8; 6144];
-    let mut out = [0u8; 65536];
+    let mut input = [0u8; INPUT];
+    let mut out = [0u8; OUTPUT];
     let mut s = State {
         drive: Drive::fresh(),
         count: 0,

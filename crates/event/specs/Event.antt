@@ -14,7 +14,7 @@ use Rattle.event.specs.declared.Decoded.the-variants.{Accepted, Refused}
 abbrev pub event : ℕ → ℕ → ℕ → ℕ → Event
 event k a b c = record { kind = k; a = a; b = b; c = c }
 
--- "A record has six bytes: the mark 5A C3, the kind, then data bytes a, b, c."
+-- "A record has six bytes: the mark 5A C3 .., the kind, then data bytes a, b, c."
 abbrev pub bytesOf : Event → List ℕ
 bytesOf e = 0x5a ∷ 0xc3 ∷ e .kind ∷ e .a ∷ e .b ∷ e .c ∷ []
 

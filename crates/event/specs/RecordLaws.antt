@@ -1,7 +1,7 @@
 -- Laws of the records of a row of bytes.
 use mathlib.Core.Path.{_≡_, refl, sym, ap, _∙_}
-use mathlib.Core.List.{List, [], _∷_}
-use Prim.Native.Nat.{ℕ, suc, _+_, _-_, _<_, _≤_, min}
+use mathlib.Core.List.{List, [], _∷_, _++_}
+use Prim.Native.Nat.{ℕ, zero, suc, _+_, _*_, _-_, _<_, _≤_, min}
 use native.Mathlib.Omega.{arith}
 use native.Mathlib.Nat.{not-suc-le-zero}
 use lib.ListN.{length, take, drop, drop-of-length-le, take-append-drop, length-take, length-drop}
@@ -37,3 +37,17 @@ left-more room i s at m h k e =
     let more : room - i ≡ suc (room - (i + 1)) = omega arith in
     let size : length (take 6 (drop at s)) ≡ m = simp (length-take, length-drop) (omega arith) in
     rw (records-cons (drop at s) (simp length-drop (omega arith)), more, ← drop-drop m at s, take-count 6 m (drop at s) size, drop-count 6 m (drop at s) size)
+
+-- whole records, and then any bytes
+pub records-append : (k : ℕ) (s t : List ℕ) → length s ≡ 6 * k → recordsOf (s ++ t) ≡ recordsOf s ++ recordsOf t
+unfolding recordsOf
+records-append zero [] t h = refl
+records-append zero (a ∷ s) t h = absurd (omega arith)
+records-append (suc k) [] t h = absurd (omega arith)
+records-append (suc k) (a ∷ []) t h = absurd (omega arith)
+records-append (suc k) (a ∷ b ∷ []) t h = absurd (omega arith)
+records-append (suc k) (a ∷ b ∷ c ∷ []) t h = absurd (omega arith)
+records-append (suc k) (a ∷ b ∷ c ∷ d ∷ []) t h = absurd (omega arith)
+records-append (suc k) (a ∷ b ∷ c ∷ d ∷ e ∷ []) t h = absurd (omega arith)
+records-append (suc k) (a ∷ b ∷ c ∷ d ∷ e ∷ f ∷ s) t h =
+    ap (λ (l : List (List ℕ)). (a ∷ b ∷ c ∷ d ∷ e ∷ f ∷ []) ∷ l) (records-append k s t (omega arith))

@@ -4,6 +4,9 @@ ghost use lib.ListN.{length};
 ghost use Rattle.event.specs.Event.{event, eventIn, dataRefusal, recordRefusal, readOf, writeRefusal, writtenTo, valueOf};
 use numbers::pick8;
 
+// The bytes of a record.
+pub const LENGTH: usize = 6;
+
 // Document 01's eleven kinds.
 pub const TICK: u8 = 1;
 
@@ -27,10 +30,12 @@ pub const READ_POSITION: u8 = 10;
 
 pub const READ_PARAMETER: u8 = 11;
 
-// The commands of kind 3, in byte c; the third, 2, is release.
+// The commands of kind 3, in byte c.
 pub const NORMAL: u8 = 0;
 
 pub const OVERRIDE: u8 = 1;
+
+pub const RELEASE: u8 = 2;
 
 pub struct Event {
     pub kind: u8,
@@ -61,7 +66,7 @@ fn data_refusal(e: Event) -> u8
         LTE_SETPOINT => pick8(
             (a < 51) | (54 < a),
             6,
-            pick8(2 < c, 7, pick8((c <= 1) & (100 < b), 8, 0)),
+            pick8(RELEASE < c, 7, pick8((c <= OVERRIDE) & (100 < b), 8, 0)),
         ),
         FORCING => pick8(bc, 5, pick8(3 < a, 6, 0)),
         HAND => pick8(c != 0, 5, pick8(1 < a, 6, 0)),
@@ -79,7 +84,7 @@ fn data_refusal(e: Event) -> u8
 pub fn refusal(s: &[u8]) -> u8
     ensures { λ r. ⌜ r ≡ recordRefusal (now (s .entry)) ⌝ }
 {
-    if s.len() != 6 {
+    if s.len() != LENGTH {
         return 2;
     }
     if (s[0] != 0x5A) | (s[1] != 0xC3) {
@@ -119,7 +124,7 @@ pub fn write(buf: &mut [u8], kind: u8, a: u8, b: u8, c: u8) -> u8
     ensures answer { λ r. ⌜ r ≡ writeRefusal (now (buf .entry)) (event kind a b c) ⌝ }
     ensures bytes { λ _. ⌜ now (buf .exit) ≡ writtenTo (now (buf .entry)) (event kind a b c) ⌝ }
 {
-    if buf.len() < 6 {
+    if buf.len() < LENGTH {
         return 2;
     }
     let n = data_refusal(Event {

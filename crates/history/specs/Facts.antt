@@ -9,11 +9,10 @@ use lib.ListN.{length}
 use borrow.Author.Tests.{leb-true, le-leb, eqb-true, ne-eqb}
 use Rattle.numbers.specs.Numbers.{pick, next}
 use Rattle.numbers.specs.Laws.{and-left, and-right, not-false}
-use Rattle.table.specs.Table.{damperMode, low, high, minRepTime, actPosCov, repPer}
+use Rattle.table.specs.Table.{minRepTime, actPosCov, repPer}
 use Rattle.event.specs.declared.Event.{Event}
 use Rattle.event.specs.Event.{eventIn, badMark, badKind, unusedSet, badA, badCommand, badPercent, dataRefusal, recordRefusal}
 use Rattle.event.specs.Laws.{admitted, record-passed}
-use Rattle.rules.specs.Rank.{running, forbidsRun}
 use Rattle.rules.specs.Report.{changed}
 use Rattle.rules.specs.Refusal.{wrongProperty, outsideTable, lowAboveHigh, rateInRun, runForbidden, stateRefusal, refusal}
 use Rattle.rules.specs.RefusalLaws.{refusal-passed}
@@ -25,7 +24,7 @@ use Rattle.damper.specs.declared.Outcome.{Outcome}
 use Rattle.answer.specs.Answer.{isReport}
 use Rattle.damper.specs.WellFormed.{wellFormed}
 use Rattle.damper.specs.Tick.{advance, due, dueWith, statusOf}
-use Rattle.damper.specs.Step.{outcome, tickWith, ticked, applied}
+use Rattle.damper.specs.Step.{outcome, tickWith, ticked, applied, judgedBy}
 use Rattle.invariant.specs.Effects as F
 use Rattle.invariant.specs.Kept as K
 use Rattle.history.specs.Readings as R
@@ -67,6 +66,11 @@ pub record Facts (d : Drive) (t : C.Trace) (s : List ℕ) (o : Outcome) : Type 0
   pub others : C.Others (momentOf s o) t
   pub refusal : C.Refusal (momentOf s o) t
   pub formed : C.Formed (momentOf s o) t
+
+-- the list's own judgement is that of the record
+pub judged : (d : Drive) (t : C.Trace) (s : List ℕ) → Good d t → judgedBy d s ≡ R.judgement (C.accepted t) s
+unfolding R.judgement
+judged d t s g = rw (g .agrees .params, g .agrees .run, g .agrees .fault, g .agrees .forcing)
 
 -- no refusal that looks at bytes or state has number 1
 abbrev NotOne : ℕ → Type 0
@@ -181,18 +185,17 @@ module _ (d : Drive) (t : C.Trace) (s : List ℕ) (g : Good d t) (j : R.judgemen
   J : eqb (R.judgement (C.accepted t) s) 0 ≡ true
   J = rw j
 
-  judged : refusal s (damperMode (d .params)) (low (d .params)) (high (d .params)) (running (d .run)) (forbidsRun (d .fault) (d .forcing)) ≡ 0
-  unfolding R.judgement
-  judged = rw (g .agrees .params, g .agrees .run, g .agrees .fault, g .agrees .forcing) j
+  passes : judgedBy d s ≡ 0
+  passes = judged d t s g ∙ j
 
   dr : dataRefusal e ≡ 0
-  dr = record-passed s (refusal-passed s _ _ _ _ _ judged .0) .1
+  dr = record-passed s (refusal-passed s _ _ _ _ _ passes .0) .1
 
   ok : badKind (e .kind) ≡ false
   ok = admitted e dr .kind
 
   wf′ : wellFormed (applied d e .drive) ≡ true
-  wf′ = K.wf-applied d e (g .wf) dr (refusal-passed s _ _ _ _ _ judged .1)
+  wf′ = K.wf-applied d e (g .wf) dr (refusal-passed s _ _ _ _ _ passes .1)
 
   agrees′ : Agrees (applied d e .drive) (e ∷ h)
   agrees′ = agrees-applied d h (g .wf) (g .agrees) e dr

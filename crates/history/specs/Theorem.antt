@@ -15,27 +15,26 @@ use Rattle.table.specs.Laws.{at, bounds}
 use Rattle.damper.specs.declared.Drive.{Drive}
 use Rattle.damper.specs.declared.Outcome.{Outcome}
 use Rattle.damper.specs.Record.{freshDrive}
-use Rattle.damper.specs.Step.{refusalOf, stepOf}
+use Rattle.damper.specs.Step.{refusalOf}
 use Rattle.invariant.specs.Effects as F
 use Rattle.invariant.specs.Kept as K
 use Rattle.history.specs.Readings as R
 use Rattle.history.specs.RunLaws.{leftIn}
 use Rattle.history.specs.Claim as C
 use Rattle.history.specs.Claim.{momentOf}
-use Rattle.history.specs.Facts.{Good, Facts, silent-in, facts-refused, facts-accepted}
+use Rattle.history.specs.Facts.{Good, Facts, judged, silent-in, facts-refused, facts-accepted}
 
 -- the list's own judgement is the drive's
-judged : (d : Drive) (t : C.Trace) (s : List ℕ) → Good d t → refusalOf d s ≡ R.judgement (C.accepted t) s
-unfolding R.judgement
-judged d t s g = F.refusal-wf d s (g .wf) ∙ rw (g .agrees .params, g .agrees .run, g .agrees .fault, g .agrees .forcing)
+refused-by : (d : Drive) (t : C.Trace) (s : List ℕ) → Good d t → refusalOf d s ≡ R.judgement (C.accepted t) s
+refused-by d t s g = F.refusal-wf d s (g .wf) ∙ judged d t s g
 
-facts : (d : Drive) (t : C.Trace) (s : List ℕ) → Good d t → Facts d t s (stepOf d s)
+facts : (d : Drive) (t : C.Trace) (s : List ℕ) → Good d t → Facts d t s (C.drive d s)
 facts d t s g =
     cases (eqb (R.judgement (C.accepted t) s) 0)
-    (λ q. let j = eqb-true _ 0 q in rw (F.step-accepted d s (judged d t s g ∙ j)) (facts-accepted d t s g j))
+    (λ q. let j = eqb-true _ 0 q in rw (F.step-accepted d s (refused-by d t s g ∙ j)) (facts-accepted d t s g j))
     (λ q.
     let j = eqb-false _ 0 q in
-    rw (F.step-refused d s (λ z. j (sym (judged d t s g) ∙ z)), judged d t s g) (facts-refused d t s g j))
+    rw (F.step-refused d s (λ z. j (sym (refused-by d t s g) ∙ z)), refused-by d t s g) (facts-refused d t s g j))
 
 -- a since is at most the ticks after any report, and at least the ticks of a stretch without restart and report
 abbrev Most : ℕ → C.Trace → Type 0
@@ -136,7 +135,8 @@ unfolding C.outcomes C.traceOn
 claims [] d t i c = c
 claims (s ∷ ss) d t i c =
     let f = facts d t s (i .good) in
-    claims ss (stepOf d s .drive) (momentOf s (stepOf d s) ∷ t) (inv′ d t s (stepOf d s) i f) (holds d t s (stepOf d s) i f, c)
+    let o = C.drive d s in
+    claims ss (o .drive) (momentOf s o ∷ t) (inv′ d t s o i f) (holds d t s o i f, c)
 
 fresh-good : Good freshDrive []
 unfolding C.accepted C.lastReport R.parameters R.parameterIn R.latest R.current R.faultIn R.forcingIn R.handIn R.handValue R.toolIn R.toolValue R.setpointIn R.setpointValue R.setpointAge R.runIn leftIn R.positionIn
@@ -181,7 +181,7 @@ trace-whole l = go l freshDrive [] ∙ zero-add (length l)
   where
     go : (l : List (List ℕ)) (d : Drive) (t : C.Trace) → length (C.traceOn t l (C.outcomes d l)) ≡ length t + length l
     go [] d t = omega arith
-    go (s ∷ ss) d t = go ss (stepOf d s .drive) (momentOf s (stepOf d s) ∷ t) ∙ omega arith
+    go (s ∷ ss) d t = let o = C.drive d s in go ss (o .drive) (momentOf s o ∷ t) ∙ omega arith
 
 -- For every list of lists of bytes, however long each may be, the drive's trace meets the claim.
 pub demand-3 : (l : List (List ℕ)) → C.Claim (C.traceOf l)

@@ -8,13 +8,12 @@ use lib.ListN.{set}
 use borrow.Author.Tests.{ne-eqb}
 use Rattle.numbers.specs.Numbers.{pick, next}
 use Rattle.numbers.specs.Laws.{cases}
-use Rattle.table.specs.Table.{placeOf, damperMode, startSynchronization, rate, low, high}
+use Rattle.table.specs.Table.{placeOf, startSynchronization, rate}
 use Rattle.event.specs.declared.Event.{Event}
 use Rattle.event.specs.Event.{event, eventIn, badKind, valueOf}
 use Rattle.event.specs.Laws.{by-kind}
 use Rattle.motion.specs.Motion.{toPosition, toward, runTicks}
 use Rattle.rules.specs.Rank.{running, startRun, forbidsRun}
-use Rattle.rules.specs.Refusal.{refusal}
 use Rattle.damper.specs.declared.Drive.{Drive}
 use Rattle.damper.specs.declared.Outcome.{Outcome}
 use Rattle.answer.specs.declared.Answer.the-variants.{No, Report}
@@ -22,7 +21,7 @@ use Rattle.damper.specs.Record.{withCounts, withPosition, withRun, withSetpoint
 use Rattle.damper.specs.WellFormed.{wellFormed}
 use Rattle.damper.specs.Tick.{aged, ruling, targetAt, moved, ranDown, advance, statusOf, due}
 use Rattle.answer.specs.Answer.{isReport, numberOf}
-use Rattle.damper.specs.Step.{outcome, done, tickWith, ticked, commanded, calibrated, restarted, obeyed, applied, refusalOf, stepOf}
+use Rattle.damper.specs.Step.{outcome, done, tickWith, ticked, commanded, calibrated, restarted, obeyed, applied, judgedBy, refusalOf, stepOf}
 
 -- kind 3 with command 0, and with another
 abbrev written : Drive → ℕ → Outcome
@@ -248,8 +247,6 @@ module _ (d : Drive) where
   unfolding stepOf
   step-accepted s h = rw h
 
-  pub refusal-wf : (s : List ℕ) → wellFormed d ≡ true
-      → refusalOf d s ≡ refusal s (damperMode (d .params)) (low (d .params)) (high (d .params)) (running (d .run))
-      (forbidsRun (d .fault) (d .forcing))
+  pub refusal-wf : (s : List ℕ) → wellFormed d ≡ true → refusalOf d s ≡ judgedBy d s
   unfolding refusalOf
   refusal-wf s h = rw h

@@ -19,7 +19,7 @@ digitsWithin (suc most) n = pick (ltb n 10) ((48 + n) ∷ []) (digitsWithin most
 unfoldable pub decimal : ℕ → List ℕ
 decimal n = digitsWithin (suc n) n
 
--- "a space, then `ok`; `no N`; `par V`; `at P C S`; or `tick P R M S`": the space and the word
+-- "a space, then `ok`; `no N` ..; `par V` ..; `at P C S` ..; or `tick P R M S`": the space and the word
 abbrev pub word : Answer → List ℕ
 word (No n) = 32 ∷ 110 ∷ 111 ∷ []
 word Done = 32 ∷ 111 ∷ 107 ∷ []
@@ -59,9 +59,12 @@ pub record Written (before after : List ℕ) (at end : ℕ) (bytes : List ℕ) :
   pub place : end ≡ at + length bytes
   pub buffer : after ≡ writeAt before at bytes
 
--- at least 64 bytes are free from `at` on
+-- the bytes that must be free for a line: more than any line has
+abbrev pub room : ℕ
+room = 64
+
 abbrev pub roomAt : List ℕ → ℕ → Bool
-roomAt buf at = leb (at + 64) (length buf)
+roomAt buf at = leb (at + room) (length buf)
 
 -- a line goes into the buffer where there is room; else the buffer is as it was
 unfoldable pub putLine : List ℕ → ℕ → ℕ → Answer → List ℕ

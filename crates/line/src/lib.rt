@@ -4,7 +4,7 @@ ghost use mathlib.Core.Path.{_≡_};
 ghost use mathlib.Core.List.{[], _∷_};
 ghost use Prim.Native.Nat.{_+_, _<_, _≤_};
 ghost use lib.ListN.{length};
-ghost use Rattle.line.specs.Line.{decimal, spaced, textOf, Written, putLine, endOf};
+ghost use Rattle.line.specs.Line.{decimal, spaced, textOf, Written, putLine, endOf, room};
 use answer::Answer;
 
 // A line is written only where this many bytes are free: more than any line has.
@@ -64,7 +64,7 @@ fn put_three(out: &mut [u8], at: usize, a: u8, b: u8, c: u8) -> usize
     put_value(out, third, c as u16)
 }
 
-// An answer's word and values, each after a space.
+// An answer's word and values, each after a space, and `-` where a tick sends no report: at most 29 bytes, ` tick` and four values.
 fn put_answer(out: &mut [u8], at: usize, answer: Answer) -> usize
     requires { ⌜ at + 29 ≤ length (now out) ⌝ }
     ensures written { λ r. ⌜ Written (now (out .entry)) (now (out .exit)) at r (textOf answer) ⌝ }
@@ -114,7 +114,7 @@ fn put_answer(out: &mut [u8], at: usize, answer: Answer) -> usize
 // ROOM bytes are free from there on.
 pub fn put_line(out: &mut [u8], at: usize, count: u64, answer: Answer) -> usize
     ensures end { λ r. ⌜ r ≡ endOf (now (out .entry)) at count answer ⌝ }
-    ensures short { λ r. ⌜ r ≤ at + 64 ⌝ }
+    ensures short { λ r. ⌜ r ≤ at + room ⌝ }
     ensures bytes { λ _. ⌜ now (out .exit) ≡ putLine (now (out .entry)) at count answer ⌝ }
 {
     if out.len() < at {

@@ -44,6 +44,7 @@ pub fn toward(position: u8, target: u8, rate: u8) -> u8
     }
 }
 
+// 0 still, 1 rising, 2 falling, 1 and 2 exchanged under OpenCloseDirection 1.
 pub fn motor(direction: u16, before: u8, after: u8) -> u8
     ensures { λ r. ⌜ r ≡ motor direction before after ⌝ }
 {

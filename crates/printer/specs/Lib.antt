@@ -1,3 +1,4 @@
 -- The printed lines of a row of event records.
 pub mod Page
 pub mod Laws
+pub mod Pieces

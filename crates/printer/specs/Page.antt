@@ -6,7 +6,7 @@ use lib.ListN.{length, take, drop}
 use Rattle.numbers.specs.Numbers.{pick}
 use Rattle.event.specs.Records.{recordsOf}
 use Rattle.damper.specs.declared.Outcome.{Outcome}
-use Rattle.line.specs.Line.{lineOf}
+use Rattle.line.specs.Line.{lineOf, room}
 
 -- the count of the next record, which stops at the last number of 64 bits
 unfoldable pub counted : ℕ → ℕ
@@ -16,7 +16,7 @@ unfoldable pub countAfter : ℕ → List Outcome → ℕ
 countAfter n [] = n
 countAfter n (o ∷ os) = countAfter (counted n) os
 
--- "one line per record", `n` records having been given before: "Each line is the record's count from 1"
+-- a line for each record, `n` records having been given before: "Each line is the record's count from 1"
 unfoldable pub linesAfter : ℕ → List Outcome → List ℕ
 linesAfter n [] = []
 linesAfter n (o ∷ os) = lineOf (counted n) (o .answer) ++ linesAfter (counted n) os
@@ -25,6 +25,6 @@ linesAfter n (o ∷ os) = lineOf (counted n) (o .answer) ++ linesAfter (counted 
 unfoldable pub pageAfter : ℕ → List Outcome → List ℕ → List ℕ
 pageAfter n os buf = linesAfter n os ++ drop (length (linesAfter n os)) buf
 
--- the records that are answered: as many as the buffer has room for, 64 bytes for each
+-- the records that are answered: as many as the buffer has room for
 abbrev pub answered : List ℕ → List ℕ → List (List ℕ)
-answered s buf = take (length buf / 64) (recordsOf s)
+answered s buf = take (length buf / room) (recordsOf s)

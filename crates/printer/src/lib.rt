@@ -42,7 +42,7 @@ pub fn print_answers(mut d: Drive, given: u64, s: &[u8], out: &mut [u8]) -> Prin
         if left == 0 {
             break;
         }
-        let end = at + numbers::min_size(left, 6);
+        let end = at + numbers::min_size(left, event::LENGTH);
         let o = d.step(&s[at..end]);
         let next = o.drive;
         let answer = o.answer;

@@ -30,7 +30,7 @@ pub fn replay(mut d: Drive, s: &[u8], words: &mut [u8], codes: &mut [u32]) -> Re
         if left == 0 {
             break;
         }
-        let end = at + numbers::min_size(left, 6);
+        let end = at + numbers::min_size(left, event::LENGTH);
         let o = d.step(&s[at..end]);
         let next = o.drive;
         let a = o.answer;

@@ -78,20 +78,24 @@ forcedTarget g = pick (eqb g 2) 0 255
 abbrev pub runTarget : ℕ → ℕ
 runTarget r = pick (eqb r 3) 255 0
 
+-- a value "brought into Low to High" of the parameters
+abbrev pub limited : List ℕ → ℕ → ℕ
+limited q v = within (low q) (high q) v
+
 -- "backup with BackupMode 0, BackupValue as a position, likewise; with BackupMode 1, the last bus setpoint, likewise, or the
 -- present position if there is none": present position, whether a setpoint exists and which, the parameters
 unfoldable pub backupTarget : ℕ → Bool → ℕ → List ℕ → ℕ
 backupTarget p e v q =
-    pick (eqb (backupMode q) 0) (within (low q) (high q) (toPosition (backupValue q)))
-    (pick e (within (low q) (high q) v) p)
+    pick (eqb (backupMode q) 0) (limited q (toPosition (backupValue q)))
+    (pick e (limited q v) p)
 
 -- the target of a source, by present position, forcing, run, hand value, tool value, whether a setpoint exists and which, and
 -- the parameters: "fault, the present position; .. hand, tool and bus, their value brought into Low to High"
 abbrev pub targetOf : ℕ → ℕ → ℕ → ℕ → ℕ → Bool → ℕ → List ℕ → Source → ℕ
 targetOf p g r h t e v q backup = backupTarget p e v q
-targetOf p g r h t e v q bus = within (low q) (high q) v
-targetOf p g r h t e v q tool = within (low q) (high q) t
-targetOf p g r h t e v q hand = within (low q) (high q) h
+targetOf p g r h t e v q bus = limited q v
+targetOf p g r h t e v q tool = limited q t
+targetOf p g r h t e v q hand = limited q h
 targetOf p g r h t e v q run = runTarget r
 targetOf p g r h t e v q forcing = forcedTarget g
 targetOf p g r h t e v q fault = p

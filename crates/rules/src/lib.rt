@@ -1,10 +1,8 @@
 // Document 01's rules over plain numbers and flags.
 ghost use mathlib.Core.Path.{_≡_};
 ghost use Prim.Native.Nat.{_≤_};
-ghost use Rattle.table.specs.Table.{low, high};
 ghost use Rattle.table.specs.Laws.{Ranges};
-ghost use Rattle.motion.specs.Motion.{within};
-ghost use Rattle.rules.specs.Rank.{startRun, forced, forbidsRun, busActive, rulingRank, backupTarget};
+ghost use Rattle.rules.specs.Rank.{startRun, forced, forbidsRun, busActive, rulingRank, limited, backupTarget};
 ghost use Rattle.rules.specs.Report.{status, changed};
 ghost use Rattle.rules.specs.Refusal.{stateRefusal};
 use event::Event;
@@ -38,7 +36,7 @@ pub fn ruling_rank(active: u8) -> u8
 // v brought into the Low to High of the parameters.
 pub fn limited(params: [u16; table::COUNT], v: u8) -> u8
     requires { ⌜ Ranges params ⌝ }
-    ensures { λ r. ⌜ r ≡ within (low params) (high params) v ⌝ }
+    ensures { λ r. ⌜ r ≡ limited params v ⌝ }
 {
     motion::within(params[table::LOW] as u8, params[table::HIGH] as u8, v)
 }
@@ -85,6 +83,7 @@ pub fn bus_active(exists: bool, age: u16, timeout: u16) -> bool
     exists & (age <= timeout)
 }
 
+// Bit 0 fault, 1 hand or tool, 2 calibration, 3 synchronization, 4 forced, 5 bus not active.
 pub fn status(fault: bool, hand: bool, tool: bool, run: u8, forcing: u8, bus: bool) -> u8
     ensures { λ r. ⌜ r ≡ status fault hand tool run forcing bus ⌝ }
 {

@@ -37,7 +37,6 @@ bounds r v e = (leb-true _ _ (and-left (leb (r .least) v) _ e), leb-true _ _ (an
 
 -- what inner functions ask of a row of values, and that a row in range has it
 pub record Ranges (p : List ℕ) : Type 0 where
-  pub mode : Table.damperMode p ≤ 4
   pub backup : Table.backupValue p ≤ 100
   pub rate-least : 1 ≤ Table.rate p
   pub rate-most : Table.rate p ≤ 255
@@ -47,7 +46,6 @@ pub record Ranges (p : List ℕ) : Type 0 where
 pub ranges : (p : List ℕ) → Table.allIn Table.rows p ≡ true → Ranges p
 ranges p e =
     record {
-      mode = most 0 (omega arith);
       backup = most 5 (omega arith);
       rate-least = least 9 (omega arith);
       rate-most = most 9 (omega arith);

@@ -10,7 +10,8 @@ use Rattle.table.specs.declared.Row.{Row}
 abbrev pub row : ℕ → ℕ → ℕ → ℕ → Row
 row n l m f = record { number = n; least = l; most = m; fresh = f }
 
--- the table: number, least, most, fresh
+-- the table: number, least, most, fresh. In order: DamperMode, OpenCloseDirection, ActPosCOV, MinRepTime, BackupMode, BackupValue,
+-- StartSynchronization, Timeout, RepPer, Rate, Low, High.
 abbrev pub rows : List Row
 rows =
     row 111 1 4 1

@@ -24,4 +24,4 @@ unfolding commanded
 returns-3 c = simp (ne-eqb _ _ (c .before .before .if1 .left), ne-eqb _ _ (c .before .if2 .left), c .with-tool2 .ensures)
 
 pub commanded-spec : {M : Type 1} → statement M
-commanded-spec = tie.close (tie.spec to-position-requires (λ c κs. search needs) returns to-position-requires-2 (λ c κs. search needs) (λ c κs. search needs) returns-2 returns-3)
+commanded-spec = tie.close (tie.spec to-position-requires (λ c κs. search needs) to-position-requires-2 (λ c κs. search needs) (λ c κs. search needs) returns returns-2 returns-3)
