@@ -63,7 +63,7 @@ pub fn model_replay(drive: Record, bytes: &[u8], words: &mut [u8], codes: &mut [
 }
 
 /// Replay by one of the two, for a count of instructions: `proved`, `model`, or neither.
-pub fn spend(who: &str, n: usize) -> bool {
+pub fn spend(who: &str, n: usize) {
     let bytes = records(n, 3);
     let (mut words, mut codes) = (vec![0; n], vec![0; n]);
     let fresh = MODEL.fresh();
@@ -73,7 +73,6 @@ pub fn spend(who: &str, n: usize) -> bool {
         _ => (fresh, 0),
     };
     black_box((words, codes));
-    true
 }
 
 fn median(mut times: Vec<f64>) -> f64 {

@@ -47,7 +47,7 @@ impl fmt::Display for Caught {
     }
 }
 
-/// (e) A wrong drive, by each means on its own.
+/// A wrong drive, by each means on its own.
 pub fn catch(fault: Fault, seed: u64, events: u64) -> Caught {
     let subject = fault.subject();
     Caught {

@@ -221,7 +221,7 @@ impl Reading {
             }
             _ => {}
         }
-        // "after its latest start no fault 1 or forcing 2 or 3 came"
+        // "after its latest start .. no fault 1 or forcing 2 or 3 came"
         if (kind == 7 && a == 1) || (kind == 4 && a >= 2) {
             self.start = None;
         }

@@ -77,7 +77,7 @@ impl<'s, S: Subject + ?Sized> Pair<'s, S> {
     }
 }
 
-/// (a) Lists of events from fresh. Gives the number of events, or the finding with the list shortened.
+/// Lists of events from fresh. Gives the number of events, or the finding with the list shortened.
 pub fn lists<S: Subject + ?Sized>(
     subject: &S,
     seed: u64,
@@ -183,7 +183,7 @@ fn hex(bytes: &[u8]) -> String {
     bytes.iter().map(|byte| format!("{byte:02X}")).collect()
 }
 
-/// (b) Single steps on well-formed and on broken records. Refusals by 1 are the only ones counted:
+/// Single steps on well-formed and on broken records. Refusals by 1 are the only ones counted:
 /// all else has to be met on lists from fresh.
 pub fn singles<S: Subject + ?Sized>(
     subject: &S,
@@ -222,7 +222,7 @@ pub fn singles<S: Subject + ?Sized>(
 const VALUES: [u8; 15] = [0, 1, 2, 3, 4, 50, 51, 99, 100, 101, 127, 128, 250, 254, 255];
 const FEW_VALUES: [u8; 4] = [0, 1, 2, 101];
 
-/// (c) Reader and writer: every kind and every a, buffers of 0 to 8 bytes, every mark. With `few`,
+/// Reader and writer: every kind and every a, buffers of 0 to 8 bytes, every mark. With `few`,
 /// fewer values of b and c in the buffers of six bytes too.
 pub fn bytes<S: Subject + ?Sized>(subject: &S, few: bool) -> Result<u64, Finding> {
     let mut done = 0;
@@ -284,7 +284,7 @@ fn reads_and_writes<S: Subject + ?Sized>(subject: &S, length: usize, event: [u8;
     Ok(())
 }
 
-/// (d) The fixed lists: equality, demand 3 and the printed lines given.
+/// The fixed lists: equality, demand 3 and the printed lines given.
 pub fn fixed<S: Subject + ?Sized>(subject: &S) -> Result<u64, Finding> {
     if subject.fresh() != MODEL.fresh() {
         return finding("fresh drive", format!("{:?}", subject.fresh()));
@@ -312,7 +312,7 @@ pub fn fixed<S: Subject + ?Sized>(subject: &S) -> Result<u64, Finding> {
     Ok(CASES.len() as u64)
 }
 
-/// (d) Each false wording of demand 3 rejects a correct drive on its list, by the part named.
+/// Each false wording of demand 3 rejects a correct drive on its list, by the part named.
 pub fn false_rules<S: Subject + ?Sized>(subject: &S) -> Result<u64, Finding> {
     let mut shown = 0;
     for case in CASES {

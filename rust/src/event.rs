@@ -138,7 +138,7 @@ pub fn read(bytes: &[u8]) -> Result<(u8, u8, u8, u8), u8> {
     Ok((kind, a, b, c))
 }
 
-/// "The writer takes those four, checks 2 and 4 to 8, fills the first six bytes, no others, and
+/// "The writer takes those four, .. checks 2 and 4 to 8, fills the first six bytes .., no others, and
 /// answers 0; refused, it writes none."
 pub fn write(buffer: &mut [u8], kind: u8, a: u8, b: u8, c: u8) -> u8 {
     let Some(six) = buffer.first_chunk_mut::<6>() else { return 2 };

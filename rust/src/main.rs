@@ -27,7 +27,10 @@ fn main() -> ExitCode {
         (None, _) => suite::run(&Proved, EVENTS, STEPS, &[FIXED_SEED, clock_seed()]),
         (Some(&"compare"), Some(&[events, steps, seed])) => suite::run(&Proved, events, steps, &[seed]),
         (Some(&"bench"), None) if words.len() == 2 => bench::run(Path::new(words[1])).unwrap_or(false),
-        (Some(&"spend"), None) if words.len() == 3 => bench::spend(words[1], words[2].parse().unwrap_or(0)),
+        (Some(&"spend"), None) if words.len() == 3 => {
+            bench::spend(words[1], words[2].parse().unwrap_or(0));
+            true
+        }
         (Some(&"drive"), Some([])) => finished(drive()),
         (Some(&"gen"), Some(&[n, seed])) => finished(gen(n, seed)),
         _ => {

@@ -1,5 +1,6 @@
 //! The proved drive, through its C boundary: each exported function is declared here once and called
-//! through a safe function. None of them asks anything of its arguments.
+//! through a safe function, which hands over pointers that are valid for their lengths. Beyond that none of
+//! them asks anything of its arguments.
 
 use crate::record::{Answer, Record};
 use crate::subject::Subject;

@@ -197,6 +197,11 @@ wrong_drives! {
         }
     }
 
+    /// Age and since go on from 65,535 to 0.
+    CountsWrap {
+        fn one_more(count: u16) -> u16 { count.wrapping_add(1) }
+    }
+
     // Admitted by demand 3 alone, or out of its sight
 
     /// A restart leaves since as it was.
@@ -211,10 +216,6 @@ wrong_drives! {
     /// No periodic report.
     NeverPeriodic {
         fn overdue(_since: u16, _rep_per: u16) -> bool { false }
-    }
-    /// Age and since go on from 65,535 to 0.
-    CountsWrap {
-        fn one_more(count: u16) -> u16 { count.wrapping_add(1) }
     }
     /// A record with Low above High is taken as well formed.
     LowAboveHigh {

@@ -168,7 +168,7 @@ fn every_clause_is_broken_somewhere() {
 /// Demand 3 alone admits these two; the equalities of demand 2 do not.
 #[test]
 fn demand_3_admits() {
-    for fault in [Fault::NeverPeriodic, Fault::PeriodGreater] {
+    for fault in [Fault::NeverPeriodic, Fault::PeriodGreater, Fault::SinceKeptAtRestart] {
         let caught = catch(fault, 1, 20_000);
         assert!(caught.by_demand_3.is_none());
         assert!(caught.by_lists.is_some());

@@ -11,7 +11,7 @@ use Rattle.table.specs.Table.{rows, rowAt, inRange, allIn, placeOf, known}
 use Rattle.event.specs.Event.{eventIn, dataRefusal}
 use Rattle.event.specs.Laws.{record-passed}
 use Rattle.rules.specs.RefusalLaws.{refusal-passed}
-use Rattle.table.specs.Laws.{Ranges, ranges, at}
+use Rattle.table.specs.Laws.{Ranges, ranges, range-at}
 use Rattle.damper.specs.declared.Drive.{Drive}
 use Rattle.damper.specs.WellFormed.{wellFormed}
 use Rattle.damper.specs.Step.{judgedBy, refusalOf}
@@ -25,7 +25,7 @@ wf-ranges d h = ranges _ (wf-in d h)
 
 -- the range rule at a read: the value that a read of a parameter answers with is in its row's range
 pub read-range : (d : Drive) (n : ℕ) → wellFormed d ≡ true → known n ≡ true → inRange (rowAt rows (placeOf n)) (getD (d .params) (placeOf n) 0) ≡ true
-read-range d n w k = at rows (d .params) (placeOf n) (wf-in d w) (ltb-true _ _ k)
+read-range d n w k = range-at rows (d .params) (placeOf n) (wf-in d w) (ltb-true _ _ k)
 
 pub refusal-none : (d : Drive) (s : List ℕ) → refusalOf d s ≡ 0
     → (wellFormed d ≡ true) × (length s ≡ 6) × (dataRefusal (eventIn s) ≡ 0)

@@ -47,7 +47,7 @@ advance d =
 
 -- the status, "taken from the record as it is (in a tick, after step 3)"
 abbrev pub statusOf : Drive → ℕ
-statusOf d = status (d .fault) (d .hand) (d .tool) (d .run) (d .forcing) (busOn d)
+statusOf d = status (d .fault) (d .forcing) (d .run) (d .hand) (d .tool) (busOn d)
 
 -- step 4, with the status after steps 1 to 3: "if since is at least MinRepTime and one of these holds: no report yet; 100 × the distance from the
 -- last reported position is at least 255 × ActPosCOV; status differs; since is at least RepPer"

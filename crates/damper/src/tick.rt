@@ -75,10 +75,10 @@ impl Drive {
     {
         rules::status(
             self.fault,
+            self.forcing,
+            self.run,
             self.hand,
             self.tool,
-            self.run,
-            self.forcing,
             self.bus_on(),
         )
     }

@@ -10,7 +10,7 @@ use borrow.Author.Tests.{leb-true, leb-false, le-leb, lt-leb, lt-ltb, eqb-true}
 use Rattle.numbers.specs.Numbers.{pick, next}
 use Rattle.numbers.specs.Laws.{cases, and-right}
 use Rattle.table.specs.Table.{rows, rowAt, allIn, timeout, rate, startSynchronization}
-use Rattle.table.specs.Laws.{at, bounds, ranges}
+use Rattle.table.specs.Laws.{range-at, bounds, ranges}
 use Rattle.event.specs.declared.Event.{Event}
 use Rattle.event.specs.Event.{event, badKind, dataRefusal}
 use Rattle.event.specs.Laws.{by-kind, admitted, known-write}
@@ -44,7 +44,7 @@ pub record Agrees (d : Drive) (h : List Event) : Type 0 where
 
 -- the bound of the parameter that the setpoint's age is compared with
 timeout-most : (p : List ℕ) → allIn rows p ≡ true → timeout p ≤ 7200
-timeout-most p e = bounds (rowAt rows 7) (timeout p) (at rows p 7 e (omega arith)) .1
+timeout-most p e = bounds (rowAt rows 7) (timeout p) (range-at rows p 7 e (omega arith)) .1
 
 -- a capped count and the count pass the same test against a limit below the cap
 capped : (n t : ℕ) → t < 65535 → leb (min n 65535) t ≡ leb n t

@@ -119,7 +119,7 @@ unfoldable pub ticks : List Event → ℕ
 ticks [] = 0
 ticks (e ∷ h) = let n = ticks h in pick (isTick e) (n + 1) n
 
--- the ticks that followed the setpoint
+-- the ticks that followed the event found
 abbrev pub ticksAfter : Found → ℕ
 ticksAfter nothing = 0
 ticksAfter (found after x before) = ticks after
@@ -170,7 +170,7 @@ positionIn (e ∷ h) =
 
 -- "the status that a tick leaves ..; for it the present tick counts among those a run has passed": of the history with that tick
 unfoldable pub statusIn : List Event → ℕ
-statusIn h = status (faultIn h) (handIn h) (toolIn h) (runIn h) (forcingIn h) (busIn h)
+statusIn h = status (faultIn h) (forcingIn h) (runIn h) (handIn h) (toolIn h) (busIn h)
 
 -- "Refusals 2 to 13 are judged by what is read here": of the bytes of a record that comes after the history, 0 if accepted
 unfoldable pub judgement : List Event → List ℕ → ℕ

@@ -11,7 +11,7 @@ use borrow.Author.Tests.{eqb-true, eqb-false}
 use Rattle.numbers.specs.Numbers.{pick, next}
 use Rattle.numbers.specs.Laws.{cases}
 use Rattle.table.specs.Table.{rows, rowAt, allIn, minRepTime}
-use Rattle.table.specs.Laws.{at, bounds}
+use Rattle.table.specs.Laws.{range-at, bounds}
 use Rattle.damper.specs.declared.Drive.{Drive}
 use Rattle.damper.specs.declared.Outcome.{Outcome}
 use Rattle.damper.specs.Record.{freshDrive}
@@ -90,7 +90,7 @@ module _ (d : Drive) (t : C.Trace) (s : List ℕ) (o : Outcome) (i : Inv d t) (f
   in-range = rw (f .good .agrees .params) at (K.parts _ (f .good .wf) .params)
 
   wait-bounds : (1 ≤ minRepTime (C.inForce (momentOf s o) t)) × (minRepTime (C.inForce (momentOf s o) t) ≤ 3600)
-  wait-bounds = bounds (rowAt rows 3) _ (at rows _ 3 in-range (omega arith))
+  wait-bounds = bounds (rowAt rows 3) _ (range-at rows _ 3 in-range (omega arith))
 
   waiting′ : C.Waiting (momentOf s o) t
   unfolding C.ticksIn C.lastReport
@@ -183,6 +183,6 @@ trace-whole l = go l freshDrive [] ∙ zero-add (length l)
     go [] d t = omega arith
     go (s ∷ ss) d t = let o = C.drive d s in go ss (o .drive) (momentOf s o ∷ t) ∙ omega arith
 
--- For every list of lists of bytes, however long each may be, the drive's trace meets the claim.
+-- For every list of lists of numbers, however long each may be, the drive's trace meets the claim.
 pub demand-3 : (l : List (List ℕ)) → C.Claim (C.traceOf l)
 demand-3 l = claims l freshDrive [] fresh-inv tt

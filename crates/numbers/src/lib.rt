@@ -1,4 +1,4 @@
-// Small functions on numbers and flags, each fixed by a definition of specs/Numbers.
+// Small functions on numbers and flags.
 ghost use mathlib.Core.Path.{_≡_};
 ghost use Prim.Native.Nat.{_≤_, min, max};
 ghost use Rattle.numbers.specs.Numbers.{pick, bit, distance, next};

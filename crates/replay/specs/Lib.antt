@@ -1,3 +1,3 @@
--- A drive carried over a row of event records: its records, and the rows of answers.
+-- A drive carried over a row of event records: the records carried out, and the rows of answers.
 pub mod Replay
 pub mod Laws

@@ -1,5 +1,4 @@
-// A drive carried over a row of event records. (A crate of its own: the compiler puts the step in line where an archive has one
-// call of it.)
+// A drive carried over a row of event records.
 ghost use mathlib.Core.Path.{_≡_};
 ghost use lib.ListN.{length};
 ghost use Rattle.answer.specs.Answer.{wordOf, codeOf};

@@ -8,7 +8,7 @@ use Rattle.numbers.specs.Numbers.{pick, bit}
 use Rattle.table.specs.Table.{backupMode, backupValue, low, high}
 use Rattle.motion.specs.Motion.{toPosition, within}
 
--- who can command the damper (document 01: commander)
+-- who can command the damper (document 01: commander), by the names that 01 gives them
 pub data Source : Type 0 where
   backup : Source
   bus : Source
@@ -18,7 +18,7 @@ pub data Source : Type 0 where
   forcing : Source
   fault : Source
 
--- "Ranks: 6 fault, 5 forcing, 4 run, 3 hand, 2 tool, 1 bus, 0 backup." The one order, from rank 0 on.
+-- "Ranks: 6 fault, 5 forcing, 4 run, 3 hand, 2 tool, 1 bus, 0 backup." The one order, from rank 0 on (document 01: rank).
 abbrev pub ranking : List Source
 ranking = backup ∷ bus ∷ tool ∷ hand ∷ run ∷ forcing ∷ fault ∷ []
 
@@ -36,7 +36,7 @@ syncing r = eqb r 2 || eqb r 3
 abbrev pub startRun : ℕ → ℕ
 startRun s = pick (eqb s 1) 2 (pick (eqb s 2) 3 0)
 
--- "forcing at 2 or 3"
+-- "forcing at 2 or 3" (document 01: forcing)
 abbrev pub forced : ℕ → Bool
 forced g = eqb g 2 || eqb g 3
 

@@ -1,4 +1,4 @@
--- Document 01, 'One tick, in order': the status byte and the change-of-value test.
+-- Document 01, 'One tick, in order' and 'Who commands': the status byte and the change-of-value test.
 use mathlib.Core.Bool.{Bool, not, _||_}
 use Prim.Native.Nat.{ℕ, _+_, _*_}
 use lib.Dec.{leb}
@@ -6,9 +6,9 @@ use Rattle.numbers.specs.Numbers.{bit, distance}
 use Rattle.rules.specs.Rank.{calibrating, syncing, forced}
 
 -- "Status bits ..: 0 fault, 1 hand or tool active, 2 calibration, 3 sync, 4 forced, 5 bus not active; 6 and 7 are 0", by fault
--- flag, hand flag, tool flag, run, forcing and whether the bus is active
-unfoldable pub status : Bool → Bool → Bool → ℕ → ℕ → Bool → ℕ
-status f h t r g b =
+-- flag, forcing, run, hand flag, tool flag and whether the bus is active
+unfoldable pub status : Bool → ℕ → ℕ → Bool → Bool → Bool → ℕ
+status f g r h t b =
     ((((bit f 1 + bit (h || t) 2) + bit (calibrating r) 4) + bit (syncing r) 8) + bit (forced g) 16) + bit (not b) 32
 
 -- "A position differs by ActPosCOV or more when 100 × the distance is at least 255 × ActPosCOV."

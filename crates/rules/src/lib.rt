@@ -84,8 +84,8 @@ pub fn bus_active(exists: bool, age: u16, timeout: u16) -> bool
 }
 
 // Bit 0 fault, 1 hand or tool, 2 calibration, 3 synchronization, 4 forced, 5 bus not active.
-pub fn status(fault: bool, hand: bool, tool: bool, run: u8, forcing: u8, bus: bool) -> u8
-    ensures { λ r. ⌜ r ≡ status fault hand tool run forcing bus ⌝ }
+pub fn status(fault: bool, forcing: u8, run: u8, hand: bool, tool: bool, bus: bool) -> u8
+    ensures { λ r. ⌜ r ≡ status fault forcing run hand tool bus ⌝ }
 {
     bit(fault, 1)
         + bit(hand | tool, 2)

@@ -24,12 +24,12 @@ all-length (r ∷ l) [] e = absurd (false≢true e)
 all-length (r ∷ l) (v ∷ p) e = ap suc (all-length l p (and-right (Table.inRange r v) _ e))
 
 -- the range rule at each row, from the test of the whole table
-pub at : (l : List Row) (p : List ℕ) (i : ℕ) → Table.allIn l p ≡ true → i < length l → Table.inRange (Table.rowAt l i) (getD p i 0) ≡ true
+pub range-at : (l : List Row) (p : List ℕ) (i : ℕ) → Table.allIn l p ≡ true → i < length l → Table.inRange (Table.rowAt l i) (getD p i 0) ≡ true
 unfolding Table.allIn
-at [] p i e h = absurd (not-suc-le-zero h)
-at (r ∷ l) [] i e h = absurd (false≢true e)
-at (r ∷ l) (v ∷ p) zero e h = and-left (Table.inRange r v) _ e
-at (r ∷ l) (v ∷ p) (suc i) e h = at l p i (and-right (Table.inRange r v) _ e) (le-of-suc-le-suc h)
+range-at [] p i e h = absurd (not-suc-le-zero h)
+range-at (r ∷ l) [] i e h = absurd (false≢true e)
+range-at (r ∷ l) (v ∷ p) zero e h = and-left (Table.inRange r v) _ e
+range-at (r ∷ l) (v ∷ p) (suc i) e h = range-at l p i (and-right (Table.inRange r v) _ e) (le-of-suc-le-suc h)
 
 -- the bounds that the range rule gives
 pub bounds : (r : Row) (v : ℕ) → Table.inRange r v ≡ true → (r .least ≤ v) × (v ≤ r .most)
@@ -54,10 +54,10 @@ ranges p e =
     }
   where
     least : (i : ℕ) → i < 12 → Table.rowAt Table.rows i .least ≤ getD p i 0
-    least i h = bounds (Table.rowAt Table.rows i) (getD p i 0) (at Table.rows p i e h) .0
+    least i h = bounds (Table.rowAt Table.rows i) (getD p i 0) (range-at Table.rows p i e h) .0
 
     most : (i : ℕ) → i < 12 → getD p i 0 ≤ Table.rowAt Table.rows i .most
-    most i h = bounds (Table.rowAt Table.rows i) (getD p i 0) (at Table.rows p i e h) .1
+    most i h = bounds (Table.rowAt Table.rows i) (getD p i 0) (range-at Table.rows p i e h) .1
 
 -- one value changed within its range leaves all in range
 pub all-set : (l : List Row) (p : List ℕ) (i v : ℕ) → Table.allIn l p ≡ true → Table.inRange (Table.rowAt l i) v ≡ true → Table.allIn l (set p i v) ≡ true
