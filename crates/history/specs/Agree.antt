@@ -9,17 +9,18 @@ use lib.Dec.{leb, eqb}
 use borrow.Author.Tests.{leb-true, leb-false, le-leb, lt-leb, lt-ltb, eqb-true}
 use Rattle.numbers.specs.Numbers.{pick, next}
 use Rattle.numbers.specs.Laws.{cases, and-right}
-use Rattle.table.specs.Table.{rows, rowAt, allIn, timeout, rate, startSynchronization}
-use Rattle.table.specs.Laws.{range-at, bounds, ranges}
+use Rattle.table.specs.Table.{rows, rowAt, allIn, timeout, rate}
+use Rattle.table.specs.Laws.{range-at, bounds}
 use Rattle.event.specs.declared.Event.{Event}
 use Rattle.event.specs.Event.{event, badKind, dataRefusal}
 use Rattle.event.specs.Laws.{by-kind, admitted, known-write}
 use Rattle.motion.specs.Motion.{toPosition, runTicks, toward}
 use Rattle.motion.specs.Laws.{run-ticks-pos}
-use Rattle.rules.specs.Rank.{running, startRun, forced, forbidsRun, busActive}
+use Rattle.rules.specs.Rank.{forced, forbidsRun, busActive}
 use Rattle.damper.specs.declared.Drive.{Drive}
 use Rattle.damper.specs.WellFormed.{wellFormed, runFits}
 use Rattle.damper.specs.Tick.{aged, busOn, targetAt, advance, statusOf}
+use Rattle.damper.specs.Laws.{wf-ranges}
 use Rattle.damper.specs.Step.{applied}
 use Rattle.invariant.specs.Effects as F
 use Rattle.invariant.specs.Kept as K
@@ -95,15 +96,10 @@ ended-later false false r h = refl
 
 -- the run and its ticks left, with one event more, as the record takes them
 module _ (h : List Event) (pos : 1 ≤ runTicks (rate (R.parameters h)))
-    (f-run : R.faultIn h ≡ true → R.runIn h ≡ 0) (g-run : forced (R.forcingIn h) ≡ true → R.runIn h ≡ 0)
-    (f-left : R.faultIn h ≡ true → leftIn h ≡ 0) (g-left : forced (R.forcingIn h) ≡ true → leftIn h ≡ 0) where
+    (by-fault : R.faultIn h ≡ true → (R.runIn h ≡ 0) × (leftIn h ≡ 0))
+    (by-forcing : forced (R.forcingIn h) ≡ true → (R.runIn h ≡ 0) × (leftIn h ≡ 0)) where
   abbrev Run : ℕ → Type 0
-  Run k = (a b c : ℕ) → R.runIn (event k a b c ∷ h)
-      ≡ pick (eqb k 9) (startRun (startSynchronization (R.parameters h)))
-      (pick (eqb k 6) 1
-      (pick (eqb k 1) (pick (leb (leftIn h) 1) 0 (R.runIn h))
-      (pick (eqb k 4) (pick (forbidsRun (R.faultIn h) a) 0 (R.runIn h))
-      (pick (eqb k 7) (pick (forbidsRun (eqb a 1) (R.forcingIn h)) 0 (R.runIn h)) (R.runIn h)))))
+  Run k = (a b c : ℕ) → R.runIn (event k a b c ∷ h) ≡ F.runBy k a (R.parameters h) (R.faultIn h) (R.forcingIn h) (R.runIn h) (leftIn h)
 
   run-read : (k : ℕ) → badKind k ≡ false → Run k
   unfolding R.runIn R.latest R.ended R.ticks leftIn
@@ -112,22 +108,17 @@ module _ (h : List Event) (pos : 1 ≤ runTicks (rate (R.parameters h)))
       (λ a b c. run-below-tick (event 1 a b c) (R.latest R.isStart h) refl refl)
       (λ a b c. run-below (event 2 a b c) (R.latest R.isStart h) refl)
       (λ a b c. run-below (event 3 a b c) (R.latest R.isStart h) refl)
-      (λ a b c. run-below (event 4 a b c) (R.latest R.isStart h) refl ∙ ended-already (R.faultIn h) (forced a) _ f-run)
+      (λ a b c. run-below (event 4 a b c) (R.latest R.isStart h) refl ∙ ended-already (R.faultIn h) (forced a) _ (λ q. by-fault q .0))
       (λ a b c. run-below (event 5 a b c) (R.latest R.isStart h) refl)
       (λ a b c. rw (lt-ltb 0 _ pos))
-      (λ a b c. run-below (event 7 a b c) (R.latest R.isStart h) refl ∙ ended-later (eqb a 1) (forced (R.forcingIn h)) _ g-run)
+      (λ a b c. run-below (event 7 a b c) (R.latest R.isStart h) refl ∙ ended-later (eqb a 1) (forced (R.forcingIn h)) _ (λ q. by-forcing q .0))
       (λ a b c. run-below (event 8 a b c) (R.latest R.isStart h) refl)
       (λ a b c. rw (lt-ltb 0 _ pos))
       (λ a b c. run-below (event 10 a b c) (R.latest R.isStart h) refl)
       (λ a b c. run-below (event 11 a b c) (R.latest R.isStart h) refl)
 
   abbrev Left : ℕ → Type 0
-  Left k = (a b c : ℕ) → leftIn (event k a b c ∷ h)
-      ≡ pick (eqb k 9) (pick (running (startRun (startSynchronization (R.parameters h)))) (runTicks (rate (R.parameters h))) 0)
-      (pick (eqb k 6) (runTicks (rate (R.parameters h)))
-      (pick (eqb k 1) (leftIn h - 1)
-      (pick (eqb k 4) (pick (forbidsRun (R.faultIn h) a) 0 (leftIn h))
-      (pick (eqb k 7) (pick (forbidsRun (eqb a 1) (R.forcingIn h)) 0 (leftIn h)) (leftIn h)))))
+  Left k = (a b c : ℕ) → leftIn (event k a b c ∷ h) ≡ F.leftBy k a (R.parameters h) (R.faultIn h) (R.forcingIn h) (leftIn h)
 
   left-read : (k : ℕ) → badKind k ≡ false → Left k
   unfolding R.latest R.ended R.ticks leftIn
@@ -136,10 +127,10 @@ module _ (h : List Event) (pos : 1 ≤ runTicks (rate (R.parameters h)))
       (λ a b c. left-below-tick (event 1 a b c) (R.latest R.isStart h) refl refl)
       (λ a b c. left-below (event 2 a b c) (R.latest R.isStart h) refl)
       (λ a b c. left-below (event 3 a b c) (R.latest R.isStart h) refl)
-      (λ a b c. left-below (event 4 a b c) (R.latest R.isStart h) refl ∙ ended-already (R.faultIn h) (forced a) _ f-left)
+      (λ a b c. left-below (event 4 a b c) (R.latest R.isStart h) refl ∙ ended-already (R.faultIn h) (forced a) _ (λ q. by-fault q .1))
       (λ a b c. left-below (event 5 a b c) (R.latest R.isStart h) refl)
       (λ a b c. rw (sub-zero (runTicks (rate (R.parameters h)))))
-      (λ a b c. left-below (event 7 a b c) (R.latest R.isStart h) refl ∙ ended-later (eqb a 1) (forced (R.forcingIn h)) _ g-left)
+      (λ a b c. left-below (event 7 a b c) (R.latest R.isStart h) refl ∙ ended-later (eqb a 1) (forced (R.forcingIn h)) _ (λ q. by-forcing q .1))
       (λ a b c. left-below (event 8 a b c) (R.latest R.isStart h) refl)
       (λ a b c. rw (sub-zero (runTicks (rate (R.parameters h)))))
       (λ a b c. left-below (event 10 a b c) (R.latest R.isStart h) refl)
@@ -150,17 +141,17 @@ module _ (d : Drive) (h : List Event) (w : wellFormed d ≡ true) (g : Agrees d 
   ok : badKind (e .kind) ≡ false
   ok = admitted e r .kind
 
-  forbidden : forbidsRun (d .fault) (d .forcing) ≡ true → (d .run ≡ 0) × (d .left ≡ 0)
-  forbidden = no-run (d .run) (d .left) _ _ (K.parts d w .run)
+  forbidden : forbidsRun (d .fault) (d .forcing) ≡ true → (R.runIn h ≡ 0) × (leftIn h ≡ 0)
+  forbidden q = let z = no-run (d .run) (d .left) _ _ (K.parts d w .run) q in (sym (g .run) ∙ z .0, sym (g .left) ∙ z .1)
 
-  by-fault : R.faultIn h ≡ true → (d .run ≡ 0) × (d .left ≡ 0)
+  by-fault : R.faultIn h ≡ true → (R.runIn h ≡ 0) × (leftIn h ≡ 0)
   by-fault q = forbidden (rw (g .fault, q))
 
-  by-forcing : forced (R.forcingIn h) ≡ true → (d .run ≡ 0) × (d .left ≡ 0)
+  by-forcing : forced (R.forcingIn h) ≡ true → (R.runIn h ≡ 0) × (leftIn h ≡ 0)
   by-forcing q = forbidden (rw (g .forcing, q) (or-true (d .fault)))
 
   ticks-pos : 1 ≤ runTicks (rate (R.parameters h))
-  ticks-pos = run-ticks-pos _ (rw (g .params) at (ranges (d .params) (K.parts d w .params) .rate-least))
+  ticks-pos = run-ticks-pos _ (rw (g .params) at (wf-ranges d w .rate-least))
 
   params-kept : applied d e .drive .params ≡ R.parameters (e ∷ h)
   params-kept =
@@ -173,13 +164,13 @@ module _ (d : Drive) (h : List Event) (w : wellFormed d ≡ true) (g : Agrees d 
   run-kept =
       F.run-after d e ok
       ∙ rw (g .run, g .left, g .fault, g .forcing, g .params)
-      (sym (run-read h ticks-pos (λ q. sym (g .run) ∙ by-fault q .0) (λ q. sym (g .run) ∙ by-forcing q .0) (λ q. sym (g .left) ∙ by-fault q .1) (λ q. sym (g .left) ∙ by-forcing q .1) (e .kind) ok (e .a) (e .b) (e .c)))
+      (sym (run-read h ticks-pos by-fault by-forcing (e .kind) ok (e .a) (e .b) (e .c)))
 
   left-kept : applied d e .drive .left ≡ leftIn (e ∷ h)
   left-kept =
       F.left-after d e ok
       ∙ rw (g .left, g .fault, g .forcing, g .params)
-      (sym (left-read h ticks-pos (λ q. sym (g .run) ∙ by-fault q .0) (λ q. sym (g .run) ∙ by-forcing q .0) (λ q. sym (g .left) ∙ by-fault q .1) (λ q. sym (g .left) ∙ by-forcing q .1) (e .kind) ok (e .a) (e .b) (e .c)))
+      (sym (left-read h ticks-pos by-fault by-forcing (e .kind) ok (e .a) (e .b) (e .c)))
 
   pub agrees-applied : Agrees (applied d e .drive) (e ∷ h)
   unfolding R.faultIn R.forcingIn R.handIn R.handValue R.toolIn R.toolValue R.setpointIn R.setpointValue

@@ -1,6 +1,6 @@
 -- What an accepted event does to each field of the record, one equation a field, and what a step does with a refusal.
 use mathlib.Core.Path.{_≡_, refl, ap}
-use mathlib.Core.Bool.{true, false, not, _&&_, _||_}
+use mathlib.Core.Bool.{Bool, true, false, not, _&&_, _||_}
 use mathlib.Core.List.{List}
 use Prim.Native.Nat.{ℕ, _-_}
 use lib.Dec.{leb, eqb}
@@ -82,6 +82,24 @@ plain f d g h =
     after f d g (λ q i a b c. h i a b c .0) (λ q i a b c. h i a b c .1) (λ c q i a b. h i a b c .2) (λ c q i a b. h i a b c .3)
     (λ i a b c. h i a b c .4)
 
+-- the run after an event of kind `k` and data byte `a`, and its ticks left: by parameters, fault flag and forcing, and by the run `r`
+-- and its ticks left `n` before the event
+abbrev pub runBy : ℕ → ℕ → List ℕ → Bool → ℕ → ℕ → ℕ → ℕ
+runBy k a q f g r n =
+    pick (eqb k 9) (startRun (startSynchronization q))
+    (pick (eqb k 6) 1
+    (pick (eqb k 1) (pick (leb n 1) 0 r)
+    (pick (eqb k 4) (pick (forbidsRun f a) 0 r)
+    (pick (eqb k 7) (pick (forbidsRun (eqb a 1) g) 0 r) r))))
+
+abbrev pub leftBy : ℕ → ℕ → List ℕ → Bool → ℕ → ℕ → ℕ
+leftBy k a q f g n =
+    pick (eqb k 9) (pick (running (startRun (startSynchronization q))) (runTicks (rate q)) 0)
+    (pick (eqb k 6) (runTicks (rate q))
+    (pick (eqb k 1) (n - 1)
+    (pick (eqb k 4) (pick (forbidsRun f a) 0 n)
+    (pick (eqb k 7) (pick (forbidsRun (eqb a 1) g) 0 n) n))))
+
 module _ (d : Drive) where
   -- fault flag and forcing
   pub fault-after : (e : Event) → badKind (e .kind) ≡ false
@@ -152,21 +170,12 @@ module _ (d : Drive) where
 
   -- the run and its ticks left
   pub run-after : (e : Event) → badKind (e .kind) ≡ false
-      → applied d e .drive .run ≡ pick (eqb (e .kind) 9) (startRun (startSynchronization (d .params)))
-      (pick (eqb (e .kind) 6) 1
-      (pick (eqb (e .kind) 1) (pick (leb (d .left) 1) 0 (d .run))
-      (pick (eqb (e .kind) 4) (pick (forbidsRun (d .fault) (e .a)) 0 (d .run))
-      (pick (eqb (e .kind) 7) (pick (forbidsRun (eqb (e .a) 1) (d .forcing)) 0 (d .run)) (d .run)))))
+      → applied d e .drive .run ≡ runBy (e .kind) (e .a) (d .params) (d .fault) (d .forcing) (d .run) (d .left)
   unfolding obeyed applied tickWith advance aged moved ranDown calibrated restarted
   run-after = plain (λ o. o .drive .run) d _ refl
 
   pub left-after : (e : Event) → badKind (e .kind) ≡ false
-      → applied d e .drive .left ≡ pick (eqb (e .kind) 9)
-      (pick (running (startRun (startSynchronization (d .params)))) (runTicks (rate (d .params))) 0)
-      (pick (eqb (e .kind) 6) (runTicks (rate (d .params)))
-      (pick (eqb (e .kind) 1) (d .left - 1)
-      (pick (eqb (e .kind) 4) (pick (forbidsRun (d .fault) (e .a)) 0 (d .left))
-      (pick (eqb (e .kind) 7) (pick (forbidsRun (eqb (e .a) 1) (d .forcing)) 0 (d .left)) (d .left)))))
+      → applied d e .drive .left ≡ leftBy (e .kind) (e .a) (d .params) (d .fault) (d .forcing) (d .left)
   unfolding obeyed applied tickWith advance aged moved ranDown calibrated restarted
   left-after = plain (λ o. o .drive .left) d _ refl
 

@@ -18,13 +18,6 @@ pub const SYNC_CLOSE: u8 = 2;
 
 pub const SYNC_OPEN: u8 = 3;
 
-// The table's numbers that a rule names.
-const RATE_NUMBER: u8 = 203;
-
-const LOW_NUMBER: u8 = 204;
-
-const HIGH_NUMBER: u8 = 205;
-
 // The highest set bit: 7 less the leading zeros of an active byte, which is not 0 since backup is always active.
 pub fn ruling_rank(active: u8) -> u8
     requires { ⌜ 1 ≤ active ⌝ }
@@ -112,11 +105,16 @@ pub fn state_refusal(e: Event, mode: u16, low: u16, high: u16, running: bool, fo
         event::CALIBRATION => pick8(forbidden, 13, 0),
         event::WRITE => {
             let v = event::value_of(e);
-            let crossed = ((e.a == LOW_NUMBER) & (high < v)) | ((e.a == HIGH_NUMBER) & (v < low));
+            let crossed = ((e.a == table::LOW_NUMBER) & (high < v))
+                | ((e.a == table::HIGH_NUMBER) & (v < low));
             pick8(
                 !table::takes(e.a, v),
                 10,
-                pick8(crossed, 11, pick8((e.a == RATE_NUMBER) & running, 12, 0)),
+                pick8(
+                    crossed,
+                    11,
+                    pick8((e.a == table::RATE_NUMBER) & running, 12, 0),
+                ),
             )
         }
         _ => 0,

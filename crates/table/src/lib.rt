@@ -38,6 +38,13 @@ pub const LOW: usize = 10;
 
 pub const HIGH: usize = 11;
 
+// The numbers that a refusal looks for.
+pub const RATE_NUMBER: u8 = 203;
+
+pub const LOW_NUMBER: u8 = 204;
+
+pub const HIGH_NUMBER: u8 = 205;
+
 // 111 to 122 are the property numbers of KNX chapter 7/10/3, 201 to 205 our own. Percents in %, times in s, a tick each, Rate in
 // position units a tick, Low and High as positions.
 pub const TABLE: [Row; COUNT] = [
@@ -96,19 +103,19 @@ pub const TABLE: [Row; COUNT] = [
         fresh: 900,
     },
     Row {
-        number: 203,
+        number: RATE_NUMBER,
         least: 1,
         most: 255,
         fresh: 5,
     },
     Row {
-        number: 204,
+        number: LOW_NUMBER,
         least: 0,
         most: 255,
         fresh: 0,
     },
     Row {
-        number: 205,
+        number: HIGH_NUMBER,
         least: 0,
         most: 255,
         fresh: 255,
