@@ -49,8 +49,8 @@ advance d =
 abbrev pub statusOf : Drive → ℕ
 statusOf d = status (d .fault) (d .forcing) (d .run) (d .hand) (d .tool) (busOn d)
 
--- step 4, with the status after steps 1 to 3: "if since is at least MinRepTime and one of these holds: no report yet; 100 × the distance from the
--- last reported position is at least 255 × ActPosCOV; status differs; since is at least RepPer"
+-- step 4, with the status after steps 1 to 3: "if since is at least MinRepTime and one of these holds: no report yet; 100 × the
+-- distance from the last reported position is at least 255 × ActPosCOV; status differs; since is at least RepPer"
 unfoldable pub dueWith : Drive → ℕ → Bool
 dueWith d s =
     leb (minRepTime (d .params)) (d .since)

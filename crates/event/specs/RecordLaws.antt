@@ -9,7 +9,7 @@ use lib.Seq.{drop-drop, take-nil, take-at, drop-at}
 use Rattle.event.specs.Records.{recordsOf}
 
 -- a row that is not empty: its first six bytes, or fewer where it has fewer, and the records of the rest
-pub records-cons : (s : List ℕ) → 0 < length s → recordsOf s ≡ take 6 s ∷ recordsOf (drop 6 s)
+records-cons : (s : List ℕ) → 0 < length s → recordsOf s ≡ take 6 s ∷ recordsOf (drop 6 s)
 unfolding recordsOf
 records-cons [] h = absurd (not-suc-le-zero h)
 records-cons (a ∷ []) h = refl

@@ -12,7 +12,7 @@ use borrow.Author.Tests.{leb-true, leb-false, eqb-true, eqb-false, ltb-true, ltb
 use Rattle.numbers.specs.Numbers.{pick}
 use Rattle.numbers.specs.Laws.{and-left, and-right, and-intro, or-left, not-false, pick-elim}
 use Rattle.table.specs.declared.Row.{Row}
-use Rattle.table.specs.Table.{rows, rowAt, allIn, placeFrom, placeOf, known, takes, damperMode, startSynchronization, rate, low, high}
+use Rattle.table.specs.Table.{rateNumber, lowNumber, highNumber, rows, rowAt, allIn, placeFrom, placeOf, known, takes, damperMode, startSynchronization, rate, low, high}
 use Rattle.table.specs.Laws.{all-length, all-set}
 use Rattle.event.specs.declared.Event.{Event}
 use Rattle.event.specs.Event.{event, eventIn, badA, dataRefusal}
@@ -265,16 +265,16 @@ module _ (d : Drive) (w : wellFormed d ≡ true) where
 
   -- kind 8, where the value is in the table, Low would not exceed High, and Rate is not written during a run
   pub wf-write : (a v : ℕ) → takes a v ≡ true
-      → ((eqb a 204 && ltb (high (d .params)) v) || (eqb a 205 && ltb v (low (d .params)))) ≡ false
-      → eqb a 203 && running (d .run) ≡ false → wellFormed (withParam d (placeOf a) v) ≡ true
+      → ((eqb a lowNumber && ltb (high (d .params)) v) || (eqb a highNumber && ltb v (low (d .params)))) ≡ false
+      → eqb a rateNumber && running (d .run) ≡ false → wellFormed (withParam d (placeOf a) v) ≡ true
   unfolding placeFrom
   wf-write a v t c r =
       let p = parts d w in
       let k = and-left (known a) _ t in
       let after = param-after (d .params) a v (all-length rows (d .params) (p .params)) k in
       whole (withParam d (placeOf a) v) (all-set rows (d .params) (placeOf a) v (p .params) (and-right (known a) _ t))
-      (rw (after 10 204 refl refl, after 11 205 refl refl) (order-kept (eqb a 204) (eqb a 205) v _ _ (p .order) c)) (p .forcing)
-      (rw (after 9 203 refl refl) (run-rate (eqb a 203) _ _ v _ (forbidsRun (d .fault) (d .forcing)) r (p .run)))
+      (rw (after 10 lowNumber refl refl, after 11 highNumber refl refl) (order-kept (eqb a lowNumber) (eqb a highNumber) v _ _ (p .order) c)) (p .forcing)
+      (rw (after 9 rateNumber refl refl) (run-rate (eqb a rateNumber) _ _ v _ (forbidsRun (d .fault) (d .forcing)) r (p .run)))
       (p .hand) (p .tool) (p .setpoint) (p .age) (p .lastpos) (p .laststatus)
 
 -- step 4 of a tick, due or not

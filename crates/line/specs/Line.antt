@@ -19,7 +19,7 @@ digitsWithin (suc most) n = pick (ltb n 10) ((48 + n) ∷ []) (digitsWithin most
 unfoldable pub decimal : ℕ → List ℕ
 decimal n = digitsWithin (suc n) n
 
--- "a space, then `ok`; `no N` ..; `par V` ..; `at P C S` ..; or `tick P R M S`": the space and the word
+-- "a space, then `ok`; `no N`; `par V`; `at P C S` ..; or `tick P R M S`": the space and the word
 abbrev pub word : Answer → List ℕ
 word (No n) = 32 ∷ 110 ∷ 111 ∷ []
 word Done = 32 ∷ 111 ∷ 107 ∷ []

@@ -1,16 +1,14 @@
 -- Document 01, 'What the drive program prints': the lines of a row of event records, counted on.
 use mathlib.Core.List.{List, [], _∷_, _++_}
-use Prim.Native.Nat.{ℕ, _+_, _/_}
-use lib.Dec.{ltb}
+use Prim.Native.Nat.{ℕ, _+_, _/_, min}
 use lib.ListN.{length, take, drop}
-use Rattle.numbers.specs.Numbers.{pick}
 use Rattle.event.specs.Records.{recordsOf}
 use Rattle.damper.specs.declared.Outcome.{Outcome}
 use Rattle.line.specs.Line.{lineOf, room}
 
 -- the count of the next record, which stops at the last number of 64 bits
 unfoldable pub counted : ℕ → ℕ
-counted n = pick (ltb n 18446744073709551615) (n + 1) n
+counted n = min (n + 1) 18446744073709551615
 
 unfoldable pub countAfter : ℕ → List Outcome → ℕ
 countAfter n [] = n

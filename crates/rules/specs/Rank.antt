@@ -67,7 +67,8 @@ numberFrom w (x ∷ xs) = bit x w + numberFrom (2 * w) xs
 unfoldable pub activeByte : Bool → ℕ → ℕ → Bool → Bool → Bool → ℕ
 activeByte f g r h t b = numberFrom 1 (map (activeOf f g r h t b) ranking)
 
--- "the ruling rank is its highest set bit" (document 01: ruling)
+-- "the ruling rank is its highest set bit" (document 01: ruling), written as 7 less the leading zeros of the byte; that it is the
+-- highest set bit is the law `rank-highest`
 unfoldable pub rulingRank : ℕ → ℕ
 rulingRank active = 7 - leadingZeros 8 active
 

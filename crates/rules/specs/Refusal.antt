@@ -4,7 +4,7 @@ use mathlib.Core.List.{List}
 use Prim.Native.Nat.{ℕ, _+_}
 use lib.Dec.{ltb, eqb}
 use Rattle.numbers.specs.Numbers.{pick}
-use Rattle.table.specs.Table.{takes}
+use Rattle.table.specs.Table.{rateNumber, lowNumber, highNumber, takes}
 use Rattle.event.specs.declared.Event.{Event}
 use Rattle.event.specs.Event.{valueOf, recordRefusal, eventIn}
 
@@ -19,11 +19,11 @@ outsideTable e = eqb (e .kind) 8 && not (takes (e .a) (valueOf e))
 -- 11: "In kind 8, Low would exceed High."
 abbrev pub lowAboveHigh : Event → ℕ → ℕ → Bool
 lowAboveHigh e low high =
-    eqb (e .kind) 8 && ((eqb (e .a) 204 && ltb high (valueOf e)) || (eqb (e .a) 205 && ltb (valueOf e) low))
+    eqb (e .kind) 8 && ((eqb (e .a) lowNumber && ltb high (valueOf e)) || (eqb (e .a) highNumber && ltb (valueOf e) low))
 
 -- 12: "In kind 8, Rate is written during a run."
 abbrev pub rateInRun : Event → Bool → Bool
-rateInRun e running = (eqb (e .kind) 8 && eqb (e .a) 203) && running
+rateInRun e running = (eqb (e .kind) 8 && eqb (e .a) rateNumber) && running
 
 -- 13: "In kind 6, a fault is present or forcing is 2 or 3": what forbids a run
 abbrev pub runForbidden : Event → Bool → Bool

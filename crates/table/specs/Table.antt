@@ -31,6 +31,16 @@ rows =
 abbrev pub rowAt : List Row → ℕ → Row
 rowAt l i = getD l i (row 0 0 0 0)
 
+-- the numbers of Rate, Low and High
+abbrev pub rateNumber : ℕ
+rateNumber = rowAt rows 9 .number
+
+abbrev pub lowNumber : ℕ
+lowNumber = rowAt rows 10 .number
+
+abbrev pub highNumber : ℕ
+highNumber = rowAt rows 11 .number
+
 -- the range rule: `v` lies from least to most
 abbrev pub inRange : Row → ℕ → Bool
 inRange r v = leb (r .least) v && leb v (r .most)
