@@ -183,8 +183,8 @@ fn hex(bytes: &[u8]) -> String {
     bytes.iter().map(|byte| format!("{byte:02X}")).collect()
 }
 
-/// Single steps on well-formed and on broken records. Refusals by 1 are the only ones counted:
-/// all else has to be met on lists from fresh.
+/// Single steps on records of any origin. Only origins and refusals by 1 are counted: all else has to be
+/// met on lists from fresh.
 pub fn singles<S: Subject + ?Sized>(
     subject: &S,
     seed: u64,
@@ -193,14 +193,12 @@ pub fn singles<S: Subject + ?Sized>(
 ) -> Result<u64, Finding> {
     let mut gen = Gen::new(seed);
     for done in 1..=steps {
-        let record = if done % 2 == 0 { gen.record() } else { gen.broken_record() };
+        let (origin, record) = gen.any_record();
         let bytes = gen.single(&record);
         let well_formed = (MODEL.well_formed(&record), subject.well_formed(&record));
         let model = MODEL.step(&record, bytes.as_slice());
         let tested = subject.step(&record, bytes.as_slice());
-        if model.0 == Answer::No(1) {
-            cover.refusal(1);
-        }
+        cover.record(origin, &record, &model.0);
         let same = model == tested && well_formed.0 == well_formed.1;
         let kept = !well_formed.0 || MODEL.well_formed(&model.1);
         if !same || !kept {

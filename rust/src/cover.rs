@@ -1,6 +1,9 @@
 //! What a run met. Counted on the model's side, from the record before, the answer and the record after.
 
-use crate::record::{Answer, Record};
+use crate::gen::Origin;
+use crate::model::MODEL;
+use crate::record::{Answer, Flag, Record};
+use crate::subject::Subject;
 use crate::table::Param;
 
 const RUN_ENDS: [&str; 5] = ["its ticks passed", "fault", "forcing", "restart", "new calibration"];
@@ -17,11 +20,29 @@ pub struct Cover {
     revived: u64,
     /// Reports by the first reason that holds, in the order of step 4.
     reasons: [u64; 4],
+    /// Records of single steps, by origin.
+    origins: [u64; 5],
+    /// Records refused by 1 that the flag alone, a byte above 1, keeps from being well formed.
+    flags: [u64; 5],
 }
 
 impl Cover {
-    pub fn refusal(&mut self, number: u8) {
+    fn refusal(&mut self, number: u8) {
         self.refusals[number as usize] += 1;
+    }
+
+    /// A record out of any list, and the answer to an event there.
+    pub fn record(&mut self, origin: Origin, record: &Record, answer: &Answer) {
+        self.origins[origin as usize] += 1;
+        if *answer == Answer::No(1) {
+            self.refusal(1);
+            for flag in Flag::ALL {
+                let well_formed_at = |byte| MODEL.well_formed(&flag.set(*record, byte));
+                if flag.get(*record) > 1 && (well_formed_at(0) || well_formed_at(1)) {
+                    self.flags[flag as usize] += 1;
+                }
+            }
+        }
     }
 
     pub fn event(&mut self, before: &Record, bytes: &[u8], answer: &Answer, after: &Record) {
@@ -29,7 +50,7 @@ impl Cover {
             Answer::No(number) => self.refusal(number),
             Answer::Tick { position, rank, status, .. } => {
                 self.ranks[rank as usize] += 1;
-                if before.run != 0 && after.run == 0 {
+                if before.run.kind != 0 && after.run.kind == 0 {
                     self.run_ends[0] += 1;
                 }
                 if let Some(status) = status {
@@ -42,13 +63,13 @@ impl Cover {
     }
 
     fn accepted(&mut self, before: &Record, kind: u8, after: &Record) {
-        let ran = before.run != 0;
+        let ran = before.run.kind != 0;
         match kind {
-            7 if ran && after.run == 0 => self.run_ends[1] += 1,
-            4 if ran && after.run == 0 => self.run_ends[2] += 1,
+            7 if ran && after.run.kind == 0 => self.run_ends[1] += 1,
+            4 if ran && after.run.kind == 0 => self.run_ends[2] += 1,
             9 if ran => self.run_ends[3] += 1,
             6 if ran => self.run_ends[4] += 1,
-            8 if before.bus => {
+            8 if before.commands.stored == 1 => {
                 let timeout = |r: &Record| r.params[Param::Timeout as usize];
                 if before.age > timeout(before) && after.age <= timeout(after) {
                     self.revived += 1;
@@ -65,7 +86,10 @@ impl Cover {
         let ends = (0..5).map(|i| (format!("run ended: {}", RUN_ENDS[i]), self.run_ends[i]));
         let revived = [("setpoint revived".to_string(), self.revived)];
         let reasons = (0..4).map(|i| (format!("report: {}", REASONS[i]), self.reasons[i]));
-        refusals.chain(ranks).chain(ends).chain(revived).chain(reasons).collect()
+        let origins = Origin::ALL.map(|o| (format!("record: {o:?}"), self.origins[o as usize]));
+        let flags = Flag::ALL.map(|f| (format!("refused for the flag {f:?}"), self.flags[f as usize]));
+        let events = refusals.chain(ranks).chain(ends).chain(revived).chain(reasons);
+        events.chain(origins).chain(flags).collect()
     }
 
     /// The counts below `least`.
@@ -77,12 +101,12 @@ impl Cover {
 
 /// The first of step 4's reasons that held for a report.
 fn reason(before: &Record, position: u8, status: u8) -> usize {
-    let distance = u64::from(position.abs_diff(before.lastpos));
-    if !before.reported {
+    let distance = u64::from(position.abs_diff(before.last.position));
+    if before.last.reported == 0 {
         0
     } else if 100 * distance >= 255 * u64::from(before.params[Param::ActPosCov as usize]) {
         1
-    } else if status != before.laststatus {
+    } else if status != before.last.status {
         2
     } else {
         3

@@ -5,8 +5,9 @@
 //! 100 × the distance can equal 255 × ActPosCOV.
 
 use crate::event::{percent_to_position, MARK};
-use crate::record::Record;
+use crate::record::{Flag, Last, Record};
 use crate::table::{Param, TABLE};
+use std::array;
 
 /// Splitmix64.
 pub struct Rng(u64);
@@ -68,6 +69,24 @@ impl Bytes {
     pub fn as_slice(&self) -> &[u8] {
         &self.data[..self.len as usize]
     }
+}
+
+/// How a drive record came about. All but the first may be well formed or not.
+#[derive(Clone, Copy, PartialEq, Eq, Debug)]
+pub enum Origin {
+    WellFormed,
+    /// Broken in one to three places.
+    Broken,
+    /// Well formed but for one flag, any byte.
+    AnyFlag,
+    /// Well formed but for one byte of the 44, any.
+    AnyByte,
+    RandomBytes,
+}
+
+impl Origin {
+    pub const ALL: [Origin; 5] =
+        [Origin::WellFormed, Origin::Broken, Origin::AnyFlag, Origin::AnyByte, Origin::RandomBytes];
 }
 
 const GRID: [u8; 6] = [0, 51, 102, 153, 204, 255];
@@ -152,16 +171,16 @@ impl Gen {
     /// An event that is mostly accepted, and mostly to the point in the state of `record`.
     fn likely(&mut self, record: &Record) -> Bytes {
         let timeout = record.params[Param::Timeout as usize];
-        if record.fault && self.rng.once_in(5) {
+        if record.commands.fault == 1 && self.rng.once_in(5) {
             return Bytes::event(7, 0, 0, 0);
         }
-        if record.forcing >= 2 && self.rng.once_in(6) {
+        if record.commands.forcing >= 2 && self.rng.once_in(6) {
             return Bytes::event(4, self.rng.pick(&[0, 1]), 0, 0);
         }
-        if record.run != 0 && self.rng.once_in(16) {
+        if record.run.kind != 0 && self.rng.once_in(16) {
             return self.write(Param::Rate, record);
         }
-        if record.bus && record.age > timeout && self.rng.once_in(8) {
+        if record.commands.stored == 1 && record.age > timeout && self.rng.once_in(8) {
             return self.revival(record);
         }
         match self.rng.below(100) {
@@ -193,7 +212,7 @@ impl Gen {
             0 | 1 => p(Param::MinRepTime).saturating_sub(record.since),
             2 => p(Param::RepPer).saturating_sub(record.since),
             3 | 4 => p(Param::Timeout).saturating_sub(record.age),
-            5 => u16::from(record.left),
+            5 => u16::from(record.run.left),
             6 => self.rng.between(1, 70),
             _ => self.rng.between(1, 8),
         };
@@ -232,7 +251,7 @@ impl Gen {
     }
 
     fn hand(&mut self, record: &Record) -> Bytes {
-        if record.hand || self.rng.once_in(4) {
+        if record.commands.hand == 1 || self.rng.once_in(4) {
             Bytes::event(5, 0, self.rng.pick(&[0, 0, 1, 200]), 0)
         } else {
             Bytes::event(5, 1, self.position(record), 0)
@@ -253,7 +272,7 @@ impl Gen {
             return write(param, outside);
         }
         match param {
-            Param::Timeout if record.bus && self.rng.once_in(4) => self.revival(record),
+            Param::Timeout if record.commands.stored == 1 && self.rng.once_in(4) => self.revival(record),
             // Low above High, or just not.
             Param::Low if self.rng.once_in(8) => {
                 write(param, record.params[Param::High as usize].saturating_add(self.rng.between(0, 1)))
@@ -336,29 +355,27 @@ impl Gen {
         let [.., min_rep_time, _, _, _, timeout, rep_per, rate, _, _] = r.params;
         r.position = self.rng.byte();
         r.position = self.position(&r);
-        r.fault = self.rng.once_in(6);
-        r.forcing = self.rng.pick(&[0, 0, 0, 1, 2, 3]);
+        r.commands.fault = self.rng.once_in(6).into();
+        r.commands.forcing = self.rng.pick(&[0, 0, 0, 1, 2, 3]);
         if self.rng.once_in(3) {
-            (r.hand, r.handpos) = (true, self.position(&r));
+            (r.commands.hand, r.commands.handpos) = (1, self.position(&r));
         }
         if self.rng.once_in(3) {
-            (r.tool, r.toolpos) = (true, self.position(&r));
+            (r.commands.tool, r.commands.toolpos) = (1, self.position(&r));
         }
         if !self.rng.once_in(3) {
-            (r.bus, r.setpoint) = (true, self.position(&r));
+            (r.commands.stored, r.commands.setpoint) = (1, self.position(&r));
             r.age = self.count_about(timeout, timeout);
         }
-        if !r.fault && r.forcing < 2 && self.rng.once_in(2) {
+        if r.commands.fault == 0 && r.commands.forcing < 2 && self.rng.once_in(2) {
             let k = 255u16.div_ceil(rate);
-            r.run = self.rng.pick(&[1, 2, 3]);
+            r.run.kind = self.rng.pick(&[1, 2, 3]);
             let any = self.rng.between(1, k);
-            r.left = self.rng.pick(&[1, 2.min(k), k, any]) as u8;
+            r.run.left = self.rng.pick(&[1, 2.min(k), k, any]) as u8;
         }
         r.since = self.count_about(min_rep_time, rep_per);
         if !self.rng.once_in(4) {
-            r.reported = true;
-            r.lastpos = self.lastpos(&r);
-            r.laststatus = self.laststatus(&r);
+            r.last = Last { reported: 1, position: self.last_position(&r), status: self.last_status(&r) };
         }
         r
     }
@@ -373,7 +390,7 @@ impl Gen {
     }
 
     /// About as far from the position as ActPosCOV.
-    fn lastpos(&mut self, r: &Record) -> u8 {
+    fn last_position(&mut self, r: &Record) -> u8 {
         let cov = percent_to_position(r.params[Param::ActPosCov as usize] as u8);
         let near = cov.saturating_add(self.rng.below(3) as u8).saturating_sub(self.rng.below(2) as u8);
         match self.rng.below(6) {
@@ -385,13 +402,14 @@ impl Gen {
     }
 
     /// Mostly the status of the record, at times one bit off it or any.
-    fn laststatus(&mut self, r: &Record) -> u8 {
-        let bus_active = r.bus && r.age <= r.params[Param::Timeout as usize];
-        let status = u8::from(r.fault)
-            | u8::from(r.hand || r.tool) << 1
-            | u8::from(r.run == 1) << 2
-            | u8::from(r.run > 1) << 3
-            | u8::from(r.forcing > 1) << 4
+    fn last_status(&mut self, r: &Record) -> u8 {
+        let c = r.commands;
+        let bus_active = c.stored == 1 && r.age <= r.params[Param::Timeout as usize];
+        let status = c.fault
+            | (c.hand | c.tool) << 1
+            | u8::from(r.run.kind == 1) << 2
+            | u8::from(r.run.kind > 1) << 3
+            | u8::from(c.forcing > 1) << 4
             | u8::from(!bus_active) << 5;
         match self.rng.below(8) {
             0 => self.rng.byte(),
@@ -400,8 +418,38 @@ impl Gen {
         }
     }
 
-    /// A drive record broken in one to three places; now and then it stays well formed.
-    pub fn broken_record(&mut self) -> Record {
+    /// A drive record of any origin.
+    pub fn any_record(&mut self) -> (Origin, Record) {
+        let origin = match self.rng.below(16) {
+            0..8 => Origin::WellFormed,
+            8..12 => Origin::Broken,
+            12 | 13 => Origin::AnyFlag,
+            14 => Origin::AnyByte,
+            _ => Origin::RandomBytes,
+        };
+        let record = match origin {
+            Origin::WellFormed => self.record(),
+            Origin::Broken => self.broken_record(),
+            Origin::AnyFlag => {
+                let flag = self.rng.pick(&Flag::ALL);
+                let byte = self.rng.byte();
+                flag.set(self.record(), byte)
+            }
+            Origin::AnyByte => {
+                let mut bytes = self.record().to_bytes();
+                bytes[self.rng.below(44) as usize] = self.rng.byte();
+                Record::from_bytes(bytes)
+            }
+            Origin::RandomBytes => self.random_bytes(),
+        };
+        (origin, record)
+    }
+
+    pub fn random_bytes(&mut self) -> Record {
+        Record::from_bytes(array::from_fn(|_| self.rng.byte()))
+    }
+
+    fn broken_record(&mut self) -> Record {
         let mut r = self.record();
         for _ in 0..self.rng.pick(&[1, 1, 1, 2, 3]) {
             self.break_one(&mut r);
@@ -412,7 +460,8 @@ impl Gen {
     fn break_one(&mut self, r: &mut Record) {
         let any = self.rng.byte();
         let value = self.rng.pick(&[1, 2, 255, any]);
-        match self.rng.below(16) {
+        let c = &mut r.commands;
+        match self.rng.below(17) {
             0 | 1 => {
                 let row = self.rng.below(12) as usize;
                 let (least, most) = (TABLE[row].least, TABLE[row].most);
@@ -422,25 +471,29 @@ impl Gen {
                 let low = self.rng.between(1, 255);
                 (r.params[10], r.params[11]) = (low, self.rng.pick(&[low - 1, 0]));
             }
-            3 => r.forcing = self.rng.pick(&[4, 5, 6, 7, 128, 255]),
-            4 => r.run = self.rng.pick(&[4, 5, 255, 0, 1]),
-            5 => r.left = self.rng.pick(&[0, 1, 255, value]),
+            3 => c.forcing = self.rng.pick(&[4, 5, 6, 7, 128, 255]),
+            4 => r.run.kind = self.rng.pick(&[4, 5, 255, 0, 1]),
+            5 => r.run.left = self.rng.pick(&[0, 1, 255, value]),
             6 => {
                 let rate = r.params[Param::Rate as usize].max(1);
-                r.left = (255u16.div_ceil(rate) + self.rng.between(0, 1)).min(255) as u8;
-                r.run = self.rng.pick(&[1, 2, 3]);
+                r.run.left = (255u16.div_ceil(rate) + self.rng.between(0, 1)).min(255) as u8;
+                r.run.kind = self.rng.pick(&[1, 2, 3]);
             }
-            7 => r.fault = true,
-            8 => r.forcing = self.rng.pick(&[2, 3]),
-            9 => (r.hand, r.handpos) = (false, value),
-            10 => (r.tool, r.toolpos) = (false, value),
-            11 => (r.bus, r.setpoint, r.age) = (false, value, 0),
-            12 => (r.bus, r.setpoint, r.age) = (false, 0, self.rng.pick(&[1, 256, u16::MAX])),
-            13 => (r.reported, r.lastpos, r.laststatus) = (false, value, 0),
-            14 => (r.reported, r.lastpos, r.laststatus) = (false, 0, self.rng.pick(&[1, 64, 128, value])),
+            7 => c.fault = 1,
+            8 => c.forcing = self.rng.pick(&[2, 3]),
+            9 => (c.hand, c.handpos) = (0, value),
+            10 => (c.tool, c.toolpos) = (0, value),
+            11 => (c.stored, c.setpoint, r.age) = (0, value, 0),
+            12 => (c.stored, c.setpoint, r.age) = (0, 0, self.rng.pick(&[1, 256, u16::MAX])),
+            13 => r.last = Last { reported: 0, position: value, status: 0 },
+            14 => r.last = Last { reported: 0, position: 0, status: self.rng.pick(&[1, 64, 128, value]) },
+            15 => {
+                let flag = self.rng.pick(&Flag::ALL);
+                *flag.of(r) = self.rng.pick(&[2, 3, 128, 255, value]);
+            }
             _ => {
-                r.bus = self.rng.once_in(2);
-                r.reported = self.rng.once_in(2);
+                c.stored = self.rng.once_in(2).into();
+                r.last.reported = self.rng.once_in(2).into();
             }
         }
     }

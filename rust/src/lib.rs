@@ -13,6 +13,7 @@ pub mod cover;
 pub mod event;
 pub mod gen;
 pub mod model;
+pub mod plain;
 pub mod proved;
 pub mod record;
 pub mod replays;

@@ -1,7 +1,8 @@
 //! `damper-check` runs all comparisons of the proved drive with the second implementation.
 //! `damper-check compare EVENTS STEPS SEED` the same, with these numbers and this seed alone.
 //! `damper-check bench PROGRAM` prints times, PROGRAM being the proved `drive`.
-//! `damper-check spend proved|model|none N` replays N records once, for a count of instructions.
+//! `damper-check spend proved|model|plain|none mixed|ticks N` replays N records once, for a count of
+//! instructions.
 //! `damper-check drive` is document 01's program `drive`.
 //! `damper-check gen N SEED` writes N mixed records of six bytes.
 
@@ -26,15 +27,15 @@ fn main() -> ExitCode {
     let passed = match (words.first(), numbers.as_deref()) {
         (None, _) => suite::run(&Proved, EVENTS, STEPS, &[FIXED_SEED, clock_seed()]),
         (Some(&"compare"), Some(&[events, steps, seed])) => suite::run(&Proved, events, steps, &[seed]),
-        (Some(&"bench"), None) if words.len() == 2 => bench::run(Path::new(words[1])).unwrap_or(false),
-        (Some(&"spend"), None) if words.len() == 3 => {
-            bench::spend(words[1], words[2].parse().unwrap_or(0));
+        (Some(&"bench"), None) if words.len() == 2 => finished(bench::run(Path::new(words[1]))),
+        (Some(&"spend"), None) if words.len() == 4 => {
+            bench::spend(words[1], words[2], words[3].parse().unwrap_or(0));
             true
         }
         (Some(&"drive"), Some([])) => finished(drive()),
         (Some(&"gen"), Some(&[n, seed])) => finished(gen(n, seed)),
         _ => {
-            eprintln!("usage: damper-check [compare EVENTS STEPS SEED | bench PROGRAM | spend WHO N | drive | gen N SEED]");
+            eprintln!("usage: damper-check [compare EVENTS STEPS SEED | bench PROGRAM | spend WHO WHAT N | drive | gen N SEED]");
             false
         }
     };

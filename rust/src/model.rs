@@ -2,7 +2,7 @@
 //! cannot is refused by 1. An event then acts on the drive or is refused by 9 to 13.
 
 use crate::event::{self, percent_to_position, Command, Event, Forcing};
-use crate::record::{Answer, Record};
+use crate::record::{self, Answer, Commands, Last, Record};
 use crate::subject::Subject;
 use crate::table::{Param, Params};
 use std::cmp::Ordering;
@@ -15,6 +15,14 @@ pub trait Rules: 'static {
     const STATUS_BEFORE_STEP_3: bool = false;
     const LOW_UP_TO_HIGH: bool = true;
 
+    /// Each flag is 0 or 1.
+    fn flag(byte: u8) -> Option<bool> {
+        match byte {
+            0 => Some(false),
+            1 => Some(true),
+            _ => None,
+        }
+    }
     /// "K = 255 divided by Rate, rounded up."
     fn run_length(rate: u16) -> u8 {
         255u64.div_ceil(u64::from(rate)) as u8
@@ -137,8 +145,8 @@ struct Run {
 
 impl Run {
     /// "a run has 1 to K ticks left and no run has 0"; the run is one of the four.
-    fn from_fields<R: Rules>(run: u8, left: u8, rate: u16) -> Option<Option<Run>> {
-        let goal = match run {
+    fn from_fields<R: Rules>(record::Run { kind, left }: record::Run, rate: u16) -> Option<Option<Run>> {
+        let goal = match kind {
             0 => return (left == 0).then_some(None),
             1 => Goal::Calibration,
             2 => Goal::SyncClose,
@@ -182,9 +190,9 @@ struct Drive {
     last: Option<Report>,
 }
 
-/// "what is absent reads 0": the inner option is the value, the outer whether this holds.
-fn absent_reads_0<T>(flag: bool, value: T, is_0: bool) -> Option<Option<T>> {
-    if flag {
+/// "what is absent reads 0": the inner option is the value, the outer whether this holds and the flag is one.
+fn absent_reads_0<R: Rules, T>(flag: u8, value: T, is_0: bool) -> Option<Option<T>> {
+    if R::flag(flag)? {
         Some(Some(value))
     } else {
         is_0.then_some(None)
@@ -199,24 +207,30 @@ impl Drive {
         if R::LOW_UP_TO_HIGH && params.get(Param::Low) > params.get(Param::High) {
             return None;
         }
-        let forcing = Forcing::from_code(r.forcing)?;
-        let run = Run::from_fields::<R>(r.run, r.left, params.get(Param::Rate))?;
-        if run.is_some() && (r.fault || forcing.end().is_some()) {
+        let c = r.commands;
+        let fault = R::flag(c.fault)?;
+        let forcing = Forcing::from_code(c.forcing)?;
+        let run = Run::from_fields::<R>(r.run, params.get(Param::Rate))?;
+        if run.is_some() && (fault || forcing.end().is_some()) {
             return None;
         }
-        let setpoint = Setpoint { position: r.setpoint, age: r.age };
-        let report = Report { position: r.lastpos, status: r.laststatus };
+        let setpoint = Setpoint { position: c.setpoint, age: r.age };
+        let Last { reported, position, status } = r.last;
         Some(Drive {
             position: r.position,
             params,
-            fault: r.fault,
+            fault,
             forcing,
-            hand: absent_reads_0(r.hand, r.handpos, r.handpos == 0)?,
-            tool: absent_reads_0(r.tool, r.toolpos, r.toolpos == 0)?,
-            bus: absent_reads_0(r.bus, setpoint, r.setpoint == 0 && r.age == 0)?,
+            hand: absent_reads_0::<R, _>(c.hand, c.handpos, c.handpos == 0)?,
+            tool: absent_reads_0::<R, _>(c.tool, c.toolpos, c.toolpos == 0)?,
+            bus: absent_reads_0::<R, _>(c.stored, setpoint, c.setpoint == 0 && r.age == 0)?,
             run,
             since: r.since,
-            last: absent_reads_0(r.reported, report, r.lastpos == 0 && r.laststatus == 0)?,
+            last: absent_reads_0::<R, _>(
+                reported,
+                Report { position, status },
+                position == 0 && status == 0,
+            )?,
         })
     }
 
@@ -224,7 +238,7 @@ impl Drive {
     fn to_record(self) -> Record {
         let bus = self.bus.unwrap_or(Setpoint { position: 0, age: 0 });
         let last = self.last.unwrap_or(Report { position: 0, status: 0 });
-        let (run, left) = match self.run {
+        let (kind, left) = match self.run {
             None => (0, 0),
             Some(Run { goal: Goal::Calibration, left }) => (1, left),
             Some(Run { goal: Goal::SyncClose, left }) => (2, left),
@@ -233,21 +247,20 @@ impl Drive {
         Record {
             position: self.position,
             params: self.params.values(),
-            fault: self.fault,
-            forcing: self.forcing.code(),
-            hand: self.hand.is_some(),
-            handpos: self.hand.unwrap_or(0),
-            tool: self.tool.is_some(),
-            toolpos: self.tool.unwrap_or(0),
-            bus: self.bus.is_some(),
-            setpoint: bus.position,
+            commands: Commands {
+                fault: self.fault.into(),
+                forcing: self.forcing.code(),
+                hand: self.hand.is_some().into(),
+                handpos: self.hand.unwrap_or(0),
+                tool: self.tool.is_some().into(),
+                toolpos: self.tool.unwrap_or(0),
+                stored: self.bus.is_some().into(),
+                setpoint: bus.position,
+            },
             age: bus.age,
-            run,
-            left,
+            run: record::Run { kind, left },
             since: self.since,
-            reported: self.last.is_some(),
-            lastpos: last.position,
-            laststatus: last.status,
+            last: Last { reported: self.last.is_some().into(), position: last.position, status: last.status },
         }
     }
 

@@ -2,7 +2,7 @@
 //! through a safe function, which hands over pointers that are valid for their lengths. Beyond that none of
 //! them asks anything of its arguments.
 
-use crate::record::{Answer, Record};
+use crate::record::{Answer, Commands, Last, Record, Run};
 use crate::subject::Subject;
 use std::mem::{offset_of, size_of};
 
@@ -48,23 +48,26 @@ extern "C" {
 // The record's layout, as the Rattle source declares it.
 const _: () = {
     assert!(size_of::<Record>() == 44);
+    assert!(size_of::<Commands>() == 8);
+    assert!(size_of::<Run>() == 2);
+    assert!(size_of::<Last>() == 3);
     assert!(offset_of!(Record, position) == 0);
     assert!(offset_of!(Record, params) == 2);
-    assert!(offset_of!(Record, fault) == 26);
-    assert!(offset_of!(Record, forcing) == 27);
-    assert!(offset_of!(Record, hand) == 28);
-    assert!(offset_of!(Record, handpos) == 29);
-    assert!(offset_of!(Record, tool) == 30);
-    assert!(offset_of!(Record, toolpos) == 31);
-    assert!(offset_of!(Record, bus) == 32);
-    assert!(offset_of!(Record, setpoint) == 33);
+    assert!(offset_of!(Record, commands.fault) == 26);
+    assert!(offset_of!(Record, commands.forcing) == 27);
+    assert!(offset_of!(Record, commands.hand) == 28);
+    assert!(offset_of!(Record, commands.handpos) == 29);
+    assert!(offset_of!(Record, commands.tool) == 30);
+    assert!(offset_of!(Record, commands.toolpos) == 31);
+    assert!(offset_of!(Record, commands.stored) == 32);
+    assert!(offset_of!(Record, commands.setpoint) == 33);
     assert!(offset_of!(Record, age) == 34);
-    assert!(offset_of!(Record, run) == 36);
-    assert!(offset_of!(Record, left) == 37);
+    assert!(offset_of!(Record, run.kind) == 36);
+    assert!(offset_of!(Record, run.left) == 37);
     assert!(offset_of!(Record, since) == 38);
-    assert!(offset_of!(Record, reported) == 40);
-    assert!(offset_of!(Record, lastpos) == 41);
-    assert!(offset_of!(Record, laststatus) == 42);
+    assert!(offset_of!(Record, last.reported) == 40);
+    assert!(offset_of!(Record, last.position) == 41);
+    assert!(offset_of!(Record, last.status) == 42);
 };
 
 /// The proved drive.

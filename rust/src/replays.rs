@@ -1,14 +1,16 @@
-//! The proved replay against the second implementation, step by step: lists with and without a short
-//! rest, rows of any length, and what the rows held before.
+//! The proved replay and the plain C one against the second implementation, step by step: lists with and
+//! without a short rest, rows of any length, and what the rows held before.
 
 use crate::bench::{model_replay, records};
 use crate::compare::Finding;
 use crate::gen::{Gen, Rng};
 use crate::model::MODEL;
+use crate::plain::Plain;
 use crate::proved::Proved;
+use crate::record::Record;
 use crate::subject::Subject;
 
-/// Gives the number of records, or the first list on which the two differ.
+/// Gives the number of records, or the first list on which two of them differ.
 pub fn replays(seed: u64, lists: u32) -> Result<u64, Finding> {
     let mut rng = Rng::new(seed);
     let mut gen = Gen::new(seed);
@@ -18,7 +20,7 @@ pub fn replays(seed: u64, lists: u32) -> Result<u64, Finding> {
         for _ in 0..rng.below(6) {
             bytes.push(rng.byte());
         }
-        let start = if rng.once_in(8) { gen.broken_record() } else { MODEL.fresh() };
+        let start = if rng.once_in(8) { gen.any_record().1 } else { MODEL.fresh() };
         let room = (bytes.len() / 6 + 3) as u32;
         let mut words = vec![0xEE; rng.below(room) as usize];
         let mut codes = vec![0xEEEE_EEEE; rng.below(room) as usize];
@@ -26,14 +28,27 @@ pub fn replays(seed: u64, lists: u32) -> Result<u64, Finding> {
             words.resize(room as usize, 0xEE);
             codes.resize(room as usize, 0xEEEE_EEEE);
         }
-        let (mut words2, mut codes2) = (words.clone(), codes.clone());
-        let proved = Proved.replay(start, &bytes, &mut words, &mut codes);
-        let second = model_replay(start, &bytes, &mut words2, &mut codes2);
-        if (proved, &words, &codes) != (second, &words2, &codes2) {
-            let text = format!("{bytes:02X?} from {start:?}: {proved:?}, but {second:?}");
+        let proved = on_rows(&words, &codes, |words, codes| Proved.replay(start, &bytes, words, codes));
+        let second = on_rows(&words, &codes, |words, codes| model_replay(start, &bytes, words, codes));
+        let plain = on_rows(&words, &codes, |words, codes| Plain.replay(start, &bytes, words, codes));
+        if proved != second || plain != second {
+            let text = format!(
+                "{bytes:02X?} from {start:?}: proved {proved:?}, second {second:?}, plain C {plain:?}"
+            );
             return Err(Finding { place: format!("seed {seed}, list {list}"), text });
         }
         total += proved.1 as u64;
     }
     Ok(total)
+}
+
+/// The drive after a replay, its count, and what it made of these rows.
+fn on_rows(
+    words: &[u8],
+    codes: &[u32],
+    replay: impl FnOnce(&mut [u8], &mut [u32]) -> (Record, usize),
+) -> (Record, usize, Vec<u8>, Vec<u32>) {
+    let (mut words, mut codes) = (words.to_vec(), codes.to_vec());
+    let (after, count) = replay(&mut words, &mut codes);
+    (after, count, words, codes)
 }

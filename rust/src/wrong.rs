@@ -3,7 +3,7 @@
 
 use crate::event;
 use crate::model::{Model, Rules};
-use crate::record::{Answer, Record};
+use crate::record::{Answer, Flag, Last, Record};
 use crate::subject::Subject;
 
 macro_rules! wrong_drives {
@@ -52,7 +52,7 @@ wrong_drives! {
     NormalWriteReleases {
         fn finish(_: &Record, bytes: &[u8], answer: Answer, mut after: Record) -> (Answer, Record) {
             if answer == Answer::Ok && bytes[2] == 3 && bytes[5] == 0 {
-                (after.tool, after.toolpos) = (false, 0);
+                (after.commands.tool, after.commands.toolpos) = (0, 0);
             }
             (answer, after)
         }
@@ -70,7 +70,7 @@ wrong_drives! {
     ReadStoredAsReport {
         fn finish(_: &Record, _: &[u8], answer: Answer, mut after: Record) -> (Answer, Record) {
             if let Answer::At { position, status, .. } = answer {
-                (after.reported, after.lastpos, after.laststatus) = (true, position, status);
+                after.last = Last { reported: 1, position, status };
             }
             (answer, after)
         }
@@ -163,7 +163,7 @@ wrong_drives! {
     SetpointMoves {
         fn finish(_: &Record, bytes: &[u8], answer: Answer, mut after: Record) -> (Answer, Record) {
             if answer == Answer::Ok && bytes[2] == 2 {
-                after.position = after.setpoint;
+                after.position = after.commands.setpoint;
             }
             (answer, after)
         }
@@ -220,6 +220,24 @@ wrong_drives! {
     /// A record with Low above High is taken as well formed.
     LowAboveHigh {
         const LOW_UP_TO_HIGH: bool = false;
+    }
+    /// Any flag byte but 0 is taken as set.
+    AnyFlagSet {
+        fn flag(byte: u8) -> Option<bool> { Some(byte != 0) }
+    }
+    /// A flag is its lowest bit.
+    FlagByLowestBit {
+        fn flag(byte: u8) -> Option<bool> { Some(byte & 1 == 1) }
+    }
+    /// A record refused for a flag byte comes back with 1 in its place.
+    RefusedFlagMended {
+        fn finish(_: &Record, _: &[u8], answer: Answer, mut after: Record) -> (Answer, Record) {
+            for flag in Flag::ALL {
+                let byte = flag.of(&mut after);
+                *byte = (*byte).min(1);
+            }
+            (answer, after)
+        }
     }
     /// The reader takes more than six bytes.
     ReaderTakesMore {

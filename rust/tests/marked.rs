@@ -8,7 +8,7 @@ use damper_check::cover::Cover;
 use damper_check::event::percent_to_position;
 use damper_check::gen::Bytes;
 use damper_check::model::{Right, Rules, MODEL};
-use damper_check::record::{Answer, Record};
+use damper_check::record::{Answer, Record, Run};
 use damper_check::subject::Subject;
 use damper_check::wrong::Fault;
 
@@ -94,7 +94,7 @@ fn m5_timeout() {
 #[test]
 fn m6_run_length() {
     assert_eq!([5, 4, 255].map(Right::run_length), [51, 64, 1]);
-    assert_eq!(run(&MODEL, &[Bytes::event(6, 0, 0, 0)]).1.left, 51);
+    assert_eq!(run(&MODEL, &[Bytes::event(6, 0, 0, 0)]).1.run.left, 51);
 }
 
 #[test]
@@ -126,7 +126,7 @@ fn m11_calibration_under_forcing() {
 #[test]
 fn m12_sync_open() {
     let (_, record) = run(&MODEL, &case("m12"));
-    assert_eq!((record.position, record.run, record.left), (255, 0, 0));
+    assert_eq!((record.position, record.run), (255, Run { kind: 0, left: 0 }));
 }
 
 #[test]

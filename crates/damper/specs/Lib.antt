@@ -4,3 +4,5 @@ pub mod WellFormed
 pub mod Tick
 pub mod Step
 pub mod Laws
+pub mod Carry
+pub mod CarryLaws

@@ -1,262 +1,78 @@
 -- Document 01, 'The drive record': the fresh drive, and the record with one group of its fields changed. antt has no record
 -- update, so nothing else builds a record.
-use mathlib.Core.Bool.{Bool, true, false}
+use mathlib.Core.List.{List}
 use Prim.Native.Nat.{ℕ}
 use lib.ListN.{set}
 use Rattle.numbers.specs.Numbers.{pick}
 use Rattle.table.specs.Table.{freshValues}
+use Rattle.rules.specs.declared.Commands.{Commands}
+use Rattle.rules.specs.Commands.{noCommands, interlocked, handed, overridden, written}
 use Rattle.rules.specs.Rank.{forbidsRun}
+use Rattle.damper.specs.declared.Run.{Run}
+use Rattle.damper.specs.declared.Last.{Last}
 use Rattle.damper.specs.declared.Drive.{Drive}
+
+-- a run with its ticks left, and no run
+abbrev pub run : ℕ → ℕ → Run
+run r n = record { kind = r; left = n }
+
+abbrev pub noRun : Run
+noRun = run 0 0
+
+-- a last report: whether there is one, its position and its status
+abbrev pub last : ℕ → ℕ → ℕ → Last
+last v p s = record { reported = v; position = p; status = s }
+
+-- position, parameters, commands, age of the setpoint, run, ticks since the last report (document 01: since), last report
+abbrev pub drive : ℕ → List ℕ → Commands → ℕ → Run → ℕ → Last → Drive
+drive p q c a r s l = record { position = p; params = q; commands = c; age = a; run = r; since = s; last = l }
 
 -- "a fresh one has position 0, defaults below, since 0, nothing else set"
 abbrev pub freshDrive : Drive
-freshDrive =
-    record {
-      position = 0;
-      params = freshValues;
-      fault = false;
-      forcing = 0;
-      hand = false;
-      handpos = 0;
-      tool = false;
-      toolpos = 0;
-      bus = false;
-      setpoint = 0;
-      age = 0;
-      run = 0;
-      left = 0;
-      since = 0;
-      reported = false;
-      lastpos = 0;
-      laststatus = 0;
-    }
+freshDrive = drive 0 freshValues noCommands 0 noRun 0 (last 0 0 0)
 
--- the age of the setpoint and the ticks since the last report (document 01: since)
+-- the age of the setpoint and since
 abbrev pub withCounts : Drive → ℕ → ℕ → Drive
-withCounts d a s =
-    record {
-      position = d .position;
-      params = d .params;
-      fault = d .fault;
-      forcing = d .forcing;
-      hand = d .hand;
-      handpos = d .handpos;
-      tool = d .tool;
-      toolpos = d .toolpos;
-      bus = d .bus;
-      setpoint = d .setpoint;
-      age = a;
-      run = d .run;
-      left = d .left;
-      since = s;
-      reported = d .reported;
-      lastpos = d .lastpos;
-      laststatus = d .laststatus;
-    }
+withCounts d a s = drive (d .position) (d .params) (d .commands) a (d .run) s (d .last)
 
 -- the position
 abbrev pub withPosition : Drive → ℕ → Drive
-withPosition d p =
-    record {
-      position = p;
-      params = d .params;
-      fault = d .fault;
-      forcing = d .forcing;
-      hand = d .hand;
-      handpos = d .handpos;
-      tool = d .tool;
-      toolpos = d .toolpos;
-      bus = d .bus;
-      setpoint = d .setpoint;
-      age = d .age;
-      run = d .run;
-      left = d .left;
-      since = d .since;
-      reported = d .reported;
-      lastpos = d .lastpos;
-      laststatus = d .laststatus;
-    }
-
--- the run with its ticks left
-abbrev pub withRun : Drive → ℕ → ℕ → Drive
-withRun d r n =
-    record {
-      position = d .position;
-      params = d .params;
-      fault = d .fault;
-      forcing = d .forcing;
-      hand = d .hand;
-      handpos = d .handpos;
-      tool = d .tool;
-      toolpos = d .toolpos;
-      bus = d .bus;
-      setpoint = d .setpoint;
-      age = d .age;
-      run = r;
-      left = n;
-      since = d .since;
-      reported = d .reported;
-      lastpos = d .lastpos;
-      laststatus = d .laststatus;
-    }
+withPosition d p = drive p (d .params) (d .commands) (d .age) (d .run) (d .since) (d .last)
 
 -- a report of the present position and of status `s`: it "goes out, and since becomes 0"
 abbrev pub withReport : Drive → ℕ → Drive
-withReport d s =
-    record {
-      position = d .position;
-      params = d .params;
-      fault = d .fault;
-      forcing = d .forcing;
-      hand = d .hand;
-      handpos = d .handpos;
-      tool = d .tool;
-      toolpos = d .toolpos;
-      bus = d .bus;
-      setpoint = d .setpoint;
-      age = d .age;
-      run = d .run;
-      left = d .left;
-      since = 0;
-      reported = true;
-      lastpos = d .position;
-      laststatus = s;
-    }
+withReport d s = drive (d .position) (d .params) (d .commands) (d .age) (d .run) 0 (last 1 (d .position) s)
 
 -- the parameter at one place of the row
 abbrev pub withParam : Drive → ℕ → ℕ → Drive
-withParam d i v =
-    record {
-      position = d .position;
-      params = set (d .params) i v;
-      fault = d .fault;
-      forcing = d .forcing;
-      hand = d .hand;
-      handpos = d .handpos;
-      tool = d .tool;
-      toolpos = d .toolpos;
-      bus = d .bus;
-      setpoint = d .setpoint;
-      age = d .age;
-      run = d .run;
-      left = d .left;
-      since = d .since;
-      reported = d .reported;
-      lastpos = d .lastpos;
-      laststatus = d .laststatus;
-    }
+withParam d i v = drive (d .position) (set (d .params) i v) (d .commands) (d .age) (d .run) (d .since) (d .last)
+
+-- commands, the age of the setpoint and the run
+abbrev pub withCommands : Drive → Commands → ℕ → Run → Drive
+withCommands d c a r = drive (d .position) (d .params) c a r (d .since) (d .last)
+
+-- the run
+abbrev pub withRun : Drive → Run → Drive
+withRun d r = withCommands d (d .commands) (d .age) r
 
 -- "store a bus setpoint with age 0"
 abbrev pub withSetpoint : Drive → ℕ → Drive
-withSetpoint d v =
-    record {
-      position = d .position;
-      params = d .params;
-      fault = d .fault;
-      forcing = d .forcing;
-      hand = d .hand;
-      handpos = d .handpos;
-      tool = d .tool;
-      toolpos = d .toolpos;
-      bus = true;
-      setpoint = v;
-      age = 0;
-      run = d .run;
-      left = d .left;
-      since = d .since;
-      reported = d .reported;
-      lastpos = d .lastpos;
-      laststatus = d .laststatus;
-    }
+withSetpoint d v = withCommands d (written (d .commands) v) 0 (d .run)
 
 -- the override of the tool, its flag and value
-abbrev pub withTool : Drive → Bool → ℕ → Drive
-withTool d on v =
-    record {
-      position = d .position;
-      params = d .params;
-      fault = d .fault;
-      forcing = d .forcing;
-      hand = d .hand;
-      handpos = d .handpos;
-      tool = on;
-      toolpos = v;
-      bus = d .bus;
-      setpoint = d .setpoint;
-      age = d .age;
-      run = d .run;
-      left = d .left;
-      since = d .since;
-      reported = d .reported;
-      lastpos = d .lastpos;
-      laststatus = d .laststatus;
-    }
+abbrev pub withTool : Drive → ℕ → ℕ → Drive
+withTool d t y = withCommands d (overridden (d .commands) t y) (d .age) (d .run)
 
 -- the hand flag and value
-abbrev pub withHand : Drive → Bool → ℕ → Drive
-withHand d on v =
-    record {
-      position = d .position;
-      params = d .params;
-      fault = d .fault;
-      forcing = d .forcing;
-      hand = on;
-      handpos = v;
-      tool = d .tool;
-      toolpos = d .toolpos;
-      bus = d .bus;
-      setpoint = d .setpoint;
-      age = d .age;
-      run = d .run;
-      left = d .left;
-      since = d .since;
-      reported = d .reported;
-      lastpos = d .lastpos;
-      laststatus = d .laststatus;
-    }
+abbrev pub withHand : Drive → ℕ → ℕ → Drive
+withHand d h x = withCommands d (handed (d .commands) h x) (d .age) (d .run)
 
 -- fault flag and forcing; "Fault 1 and forcing 2 or 3 end a run": none goes on where it is forbidden
-abbrev pub withInterlocks : Drive → Bool → ℕ → Drive
+abbrev pub withInterlocks : Drive → ℕ → ℕ → Drive
 withInterlocks d f g =
-    record {
-      position = d .position;
-      params = d .params;
-      fault = f;
-      forcing = g;
-      hand = d .hand;
-      handpos = d .handpos;
-      tool = d .tool;
-      toolpos = d .toolpos;
-      bus = d .bus;
-      setpoint = d .setpoint;
-      age = d .age;
-      run = pick (forbidsRun f g) 0 (d .run);
-      left = pick (forbidsRun f g) 0 (d .left);
-      since = d .since;
-      reported = d .reported;
-      lastpos = d .lastpos;
-      laststatus = d .laststatus;
-    }
+    let c = interlocked (d .commands) f g in
+    withCommands d c (d .age) (pick (forbidsRun c) noRun (d .run))
 
 -- "Restart keeps position and parameters, clears all else and sets since to 0"
 abbrev pub cleared : Drive → Drive
-cleared d =
-    record {
-      position = d .position;
-      params = d .params;
-      fault = false;
-      forcing = 0;
-      hand = false;
-      handpos = 0;
-      tool = false;
-      toolpos = 0;
-      bus = false;
-      setpoint = 0;
-      age = 0;
-      run = 0;
-      left = 0;
-      since = 0;
-      reported = false;
-      lastpos = 0;
-      laststatus = 0;
-    }
+cleared d = drive (d .position) (d .params) noCommands 0 noRun 0 (last 0 0 0)

@@ -3,58 +3,58 @@ use mathlib.Core.Bool.{Bool, not, _&&_, _||_}
 use Prim.Native.Nat.{ℕ, _-_}
 use lib.Dec.{leb, eqb}
 use lib.ListN.{getD}
-use Rattle.numbers.specs.Numbers.{pick, next}
+use Rattle.numbers.specs.Numbers.{pick, on, next}
 use Rattle.table.specs.Table.{openCloseDirection, actPosCov, minRepTime, timeout, repPer, rate}
 use Rattle.motion.specs.Motion.{toward, motor}
 use Rattle.rules.specs.Rank.{busActive, activeByte, rulingRank, targets}
 use Rattle.rules.specs.Report.{status, changed}
+use Rattle.damper.specs.declared.Run.{Run}
 use Rattle.damper.specs.declared.Drive.{Drive}
 use Rattle.damper.specs.declared.Advanced.{Advanced}
-use Rattle.damper.specs.Record.{withCounts, withPosition, withRun, withReport}
+use Rattle.damper.specs.Record.{run, withCounts, withPosition, withRun, withReport}
 
 -- step 1: "Since rises by one, and so does age if there is a setpoint."
 unfoldable pub aged : Drive → Drive
-aged d = withCounts d (pick (d .bus) (next (d .age)) (d .age)) (next (d .since))
+aged d = withCounts d (pick (on (d .commands .stored)) (next (d .age)) (d .age)) (next (d .since))
 
 -- whether the bus is active, taken from the record as it is
 abbrev pub busOn : Drive → Bool
-busOn d = busActive (d .bus) (d .age) (timeout (d .params))
+busOn d = busActive (d .commands) (d .age) (timeout (d .params))
 
 -- the ruling rank of the record as it is
 abbrev pub ruling : Drive → ℕ
-ruling d = rulingRank (activeByte (d .fault) (d .forcing) (d .run) (d .hand) (d .tool) (busOn d))
+ruling d = rulingRank (activeByte (d .commands) (d .run .kind) (busOn d))
 
 -- the target at a rank
 unfoldable pub targetAt : Drive → ℕ → ℕ
-targetAt d rank =
-    getD (targets (d .position) (d .forcing) (d .run) (d .handpos) (d .toolpos) (d .bus) (d .setpoint) (d .params)) rank 0
+targetAt d rank = getD (targets (d .commands) (d .run .kind) (d .position) (d .params)) rank 0
 
 -- step 2, toward the target at a rank
 unfoldable pub moved : Drive → ℕ → Drive
 moved d rank = withPosition d (toward (d .position) (targetAt d rank) (rate (d .params)))
 
 -- step 3: "A run loses one tick and ends at 0."
-unfoldable pub ranDown : Drive → Drive
-ranDown d = withRun d (pick (leb (d .left) 1) 0 (d .run)) (d .left - 1)
+unfoldable pub ranDown : Run → Run
+ranDown r = run (pick (leb (r .left) 1) 0 (r .kind)) (r .left - 1)
 
 -- steps 1 to 3: the record after them, the "ruling rank during the move" and the motor
 unfoldable pub advance : Drive → Advanced
 advance d =
     let a = aged d in
     let r = ruling a in
-    let m = ranDown (moved a r) in
+    let m = withRun (moved a r) (ranDown (d .run)) in
     record { drive = m; rank = r; motor = motor (openCloseDirection (d .params)) (d .position) (m .position) }
 
 -- the status, "taken from the record as it is (in a tick, after step 3)"
 abbrev pub statusOf : Drive → ℕ
-statusOf d = status (d .fault) (d .forcing) (d .run) (d .hand) (d .tool) (busOn d)
+statusOf d = status (d .commands) (d .run .kind) (busOn d)
 
 -- step 4, with the status after steps 1 to 3: "if since is at least MinRepTime and one of these holds: no report yet; 100 × the
 -- distance from the last reported position is at least 255 × ActPosCOV; status differs; since is at least RepPer"
 unfoldable pub dueWith : Drive → ℕ → Bool
 dueWith d s =
     leb (minRepTime (d .params)) (d .since)
-    && (((not (d .reported) || changed (actPosCov (d .params)) (d .position) (d .lastpos)) || not (eqb s (d .laststatus)))
+    && (((not (on (d .last .reported)) || changed (actPosCov (d .params)) (d .position) (d .last .position)) || not (eqb s (d .last .status)))
     || leb (repPer (d .params)) (d .since))
 
 abbrev pub due : Drive → Bool

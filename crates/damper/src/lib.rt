@@ -2,45 +2,60 @@
 ghost use mathlib.Core.Path.{_≡_};
 ghost use Prim.Native.Nat.{_<_, _≤_};
 ghost use lib.ListN.{length};
+ghost use Rattle.numbers.specs.Numbers.{pick};
 ghost use Rattle.table.specs.Table.{rows};
 ghost use Rattle.motion.specs.Motion.{runTicks};
-ghost use Rattle.damper.specs.Record.{freshDrive, withCounts, withPosition, withRun, withReport, withParam, withSetpoint, withTool, withHand, withInterlocks, cleared};
-ghost use Rattle.damper.specs.WellFormed.{runFits, absentZero, wellFormed};
+ghost use Rattle.damper.specs.Record.{freshDrive, withCounts, withPosition, withRun, withReport, withParam, withSetpoint, withTool, withHand, cleared};
+ghost use Rattle.damper.specs.WellFormed.{runFits, lastFits, wellFormed};
 use answer::Answer;
+use rules::Commands;
 
 mod rank;
 mod step;
 mod tick;
 
-// A host in C or Rust may hold the record: every field is a number, a bool or an array of numbers, and a host that hands a
-// record over keeps each bool 0 or 1, as its language asks.
+// A run: 0 none, 1 calibration, 2 sync close, 3 sync open; the ticks left.
+#[repr(C)]
+pub struct Run {
+    pub kind: u8,
+    pub left: u8,
+}
+
+// Whether there is a last report, and what it said.
+#[repr(C)]
+pub struct Last {
+    pub reported: u8,
+    pub position: u8,
+    pub status: u8,
+}
+
+const NO_RUN: Run = Run {
+    kind: rules::NO_RUN,
+    left: 0,
+};
+
+const NO_REPORT: Last = Last {
+    reported: 0,
+    position: 0,
+    status: 0,
+};
+
+// A host in C or Rust may hold the record and restore it from storage: every field is a number, an array of numbers or a struct of
+// such, so any bytes are a record. Whether each flag is 0 or 1 is part of well-formedness.
 #[repr(C)]
 pub struct Drive {
     // 0 to 255, where 255 is 100 %.
     pub position: u8,
     // The twelve parameters, in the table's order.
     pub params: [u16; table::COUNT],
-    pub fault: bool,
-    // 0 and 1 none, 2 forced to 0, 3 forced to 255.
-    pub forcing: u8,
-    pub hand: bool,
-    pub handpos: u8,
-    // An override from the tool.
-    pub tool: bool,
-    pub toolpos: u8,
-    // Whether a bus setpoint exists, which, and its age in ticks, which stops at 65,535.
-    pub bus: bool,
-    pub setpoint: u8,
+    // What the latest commands say.
+    pub commands: Commands,
+    // The age of the bus setpoint in ticks, which stops at 65,535.
     pub age: u16,
-    // 0 none, 1 calibration, 2 sync close, 3 sync open; the ticks left.
-    pub run: u8,
-    pub left: u8,
+    pub run: Run,
     // Ticks since the last report or restart, which stop at 65,535.
     pub since: u16,
-    // Whether there is a last report, and what it said.
-    pub reported: bool,
-    pub lastpos: u8,
-    pub laststatus: u8,
+    pub last: Last,
 }
 
 // A drive after steps 1 to 3 of a tick, the ruling rank during the move, and the motor: 0 still, 1 rising, 2 falling, or 1 and 2
@@ -55,6 +70,32 @@ pub struct Advanced {
 pub struct Outcome {
     pub drive: Drive,
     pub answer: Answer,
+}
+
+impl Run {
+    // Left is at most K just where left × rate is below 255 + rate, which needs no division.
+    fn fits(self, rate: u16, forbidden: bool) -> bool
+        requires { ⌜ 1 ≤ rate ⌝ }
+        ensures { λ r. ⌜ r ≡ runFits self (runTicks rate) forbidden ⌝ }
+    {
+        let left = self.left;
+        if self.kind == rules::NO_RUN {
+            return left == 0;
+        }
+        let bounded = (left as u32) * (rate as u32) < 255 + rate as u32;
+        (self.kind <= rules::SYNC_OPEN) & ((1 <= left) & bounded & !forbidden)
+    }
+}
+
+impl Last {
+    fn fits(self) -> bool
+        ensures { λ r. ⌜ r ≡ lastFits self ⌝ }
+    {
+        if self.reported == 1 {
+            return true;
+        }
+        (self.reported == 0) & (self.position == 0) & (self.status == 0)
+    }
 }
 
 impl Drive {
@@ -79,21 +120,11 @@ impl Drive {
         Drive {
             position: 0,
             params: table::fresh_values(),
-            fault: false,
-            forcing: 0,
-            hand: false,
-            handpos: 0,
-            tool: false,
-            toolpos: 0,
-            bus: false,
-            setpoint: 0,
+            commands: rules::NO_COMMANDS,
             age: 0,
-            run: rules::NO_RUN,
-            left: 0,
+            run: NO_RUN,
             since: 0,
-            reported: false,
-            lastpos: 0,
-            laststatus: 0,
+            last: NO_REPORT,
         }
     }
 
@@ -105,26 +136,19 @@ impl Drive {
         if !table::all_in(params) {
             return false;
         }
-        (params[table::LOW] <= params[table::HIGH])
-            & (self.forcing <= 3)
-            & run_fits(
-                self.run,
-                self.left,
-                params[table::RATE],
-                rules::forbids_run(self.fault, self.forcing),
-            )
-            & self.absent_zero()
-    }
-
-    fn absent_zero(self) -> bool
-        ensures { λ r. ⌜ r ≡ absentZero self ⌝ }
-    {
-        (self.hand | (self.handpos == 0))
-            & (self.tool | (self.toolpos == 0))
-            & (self.bus | (self.setpoint == 0))
-            & (self.bus | (self.age == 0))
-            & (self.reported | (self.lastpos == 0))
-            & (self.reported | (self.laststatus == 0))
+        if params[table::HIGH] < params[table::LOW] {
+            return false;
+        }
+        if !self.commands.fit(self.age) {
+            return false;
+        }
+        if !self.last.fits() {
+            return false;
+        }
+        self.run.fits(
+            params[table::RATE],
+            rules::forbids_run(self.commands.fault, self.commands.forcing),
+        )
     }
 
     pub fn with_counts(mut self, age: u16, since: u16) -> Drive
@@ -142,21 +166,23 @@ impl Drive {
         self
     }
 
-    pub fn with_run(mut self, run: u8, left: u8) -> Drive
-        ensures { λ r. ⌜ r ≡ withRun self run left ⌝ }
+    pub fn with_run(mut self, run: Run) -> Drive
+        ensures { λ r. ⌜ r ≡ withRun self run ⌝ }
     {
         self.run = run;
-        self.left = left;
         self
     }
 
     pub fn with_report(mut self, status: u8) -> Drive
         ensures { λ r. ⌜ r ≡ withReport self status ⌝ }
     {
+        let last = Last {
+            reported: 1,
+            position: self.position,
+            status: status,
+        };
         self.since = 0;
-        self.reported = true;
-        self.lastpos = self.position;
-        self.laststatus = status;
+        self.last = last;
         self
     }
 
@@ -171,36 +197,25 @@ impl Drive {
     pub fn with_setpoint(mut self, position: u8) -> Drive
         ensures { λ r. ⌜ r ≡ withSetpoint self position ⌝ }
     {
-        self.bus = true;
-        self.setpoint = position;
+        self.commands.stored = 1;
+        self.commands.setpoint = position;
         self.age = 0;
         self
     }
 
-    pub fn with_tool(mut self, on: bool, position: u8) -> Drive
+    pub fn with_tool(mut self, on: u8, position: u8) -> Drive
         ensures { λ r. ⌜ r ≡ withTool self on position ⌝ }
     {
-        self.tool = on;
-        self.toolpos = position;
+        self.commands.tool = on;
+        self.commands.toolpos = position;
         self
     }
 
-    pub fn with_hand(mut self, on: bool, position: u8) -> Drive
+    pub fn with_hand(mut self, on: u8, position: u8) -> Drive
         ensures { λ r. ⌜ r ≡ withHand self on position ⌝ }
     {
-        self.hand = on;
-        self.handpos = position;
-        self
-    }
-
-    pub fn with_interlocks(mut self, fault: bool, forcing: u8) -> Drive
-        ensures { λ r. ⌜ r ≡ withInterlocks self fault forcing ⌝ }
-    {
-        let forbidden = rules::forbids_run(fault, forcing);
-        self.fault = fault;
-        self.forcing = forcing;
-        self.run = numbers::pick8(forbidden, rules::NO_RUN, self.run);
-        self.left = numbers::pick8(forbidden, 0, self.left);
+        self.commands.hand = on;
+        self.commands.handpos = position;
         self
     }
 
@@ -215,12 +230,8 @@ impl Drive {
     }
 }
 
-// A run's part of well-formedness. Left is at most K just where left × rate is below 255 + rate, which needs no division.
-fn run_fits(run: u8, left: u8, rate: u16, forbidden: bool) -> bool
-    requires { ⌜ 1 ≤ rate ⌝ }
-    ensures { λ r. ⌜ r ≡ runFits run left (runTicks rate) forbidden ⌝ }
+fn pick_run(c: bool, a: Run, b: Run) -> Run
+    ensures { λ r. ⌜ r ≡ pick c a b ⌝ }
 {
-    let bounded = (left as u32) * (rate as u32) < 255 + rate as u32;
-    let going = (1 <= left) & bounded & !forbidden;
-    (run <= rules::SYNC_OPEN) & numbers::pick_bool(run != rules::NO_RUN, going, left == 0)
+    if c { a } else { b }
 }

@@ -7,19 +7,20 @@ ghost use Rattle.damper.specs.Tick.{targetAt, busOn, ruling};
 use crate::Drive;
 use numbers::bit;
 use numbers::pick8;
+use rules::Commands;
 
 // The active ranks as one byte, rank r at bit r.
-fn active(fault: bool, forcing: u8, run: u8, hand: bool, tool: bool, bus: bool) -> u8
-    ensures value { λ r. ⌜ r ≡ activeByte fault forcing run hand tool bus ⌝ }
+fn active(c: Commands, run: u8, bus: bool) -> u8
+    ensures value { λ r. ⌜ r ≡ activeByte c run bus ⌝ }
     ensures bound { λ r. ⌜ (1 ≤ r) × (r < 128) ⌝ }
 {
     bit(true, 1 << Drive::BACKUP)
         + bit(bus, 1 << Drive::BUS)
-        + bit(tool, 1 << Drive::TOOL)
-        + bit(hand, 1 << Drive::HAND)
+        + bit(c.tool == 1, 1 << Drive::TOOL)
+        + bit(c.hand == 1, 1 << Drive::HAND)
         + bit(run != rules::NO_RUN, 1 << Drive::RUN)
-        + bit(rules::forced(forcing), 1 << Drive::FORCING)
-        + bit(fault, 1 << Drive::FAULT)
+        + bit(rules::forced(c.forcing), 1 << Drive::FORCING)
+        + bit(c.fault == 1, 1 << Drive::FAULT)
 }
 
 impl Drive {
@@ -27,7 +28,7 @@ impl Drive {
         ensures { λ r. ⌜ r ≡ busOn self ⌝ }
     {
         let params = self.params;
-        rules::bus_active(self.bus, self.age, params[table::TIMEOUT])
+        rules::bus_active(self.commands, self.age, params[table::TIMEOUT])
     }
 
     // The ruling rank of the record as it is.
@@ -35,14 +36,7 @@ impl Drive {
         ensures value { λ r. ⌜ r ≡ ruling self ⌝ }
         ensures bound { λ r. ⌜ r < 7 ⌝ }
     {
-        rules::ruling_rank(active(
-            self.fault,
-            self.forcing,
-            self.run,
-            self.hand,
-            self.tool,
-            self.bus_on(),
-        ))
+        rules::ruling_rank(active(self.commands, self.run.kind, self.bus_on()))
     }
 
     // The target at a rank.
@@ -54,12 +48,12 @@ impl Drive {
         let params = self.params;
         match rank {
             Drive::FAULT => self.position,
-            Drive::FORCING => pick8(self.forcing == 2, 0, 255),
-            Drive::RUN => pick8(self.run == rules::SYNC_OPEN, 255, 0),
-            Drive::HAND => rules::limited(params, self.handpos),
-            Drive::TOOL => rules::limited(params, self.toolpos),
-            Drive::BUS => rules::limited(params, self.setpoint),
-            _ => rules::backup_target(self.position, self.bus, self.setpoint, params),
+            Drive::FORCING => pick8(self.commands.forcing == 2, 0, 255),
+            Drive::RUN => pick8(self.run.kind == rules::SYNC_OPEN, 255, 0),
+            Drive::HAND => rules::limited(params, self.commands.handpos),
+            Drive::TOOL => rules::limited(params, self.commands.toolpos),
+            Drive::BUS => rules::limited(params, self.commands.setpoint),
+            _ => rules::backup_target(self.commands, self.position, params),
         }
     }
 }

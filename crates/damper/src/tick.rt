@@ -6,11 +6,30 @@ ghost use Rattle.damper.specs.Tick.{aged, moved, ranDown, advance, statu
 ghost use Rattle.damper.specs.Step.{ticked};
 use crate::Advanced;
 use crate::Drive;
+use crate::NO_RUN;
 use crate::Outcome;
+use crate::Run;
 use answer::Answer;
 use numbers::next16;
 use numbers::pick8;
 use numbers::pick16;
+
+impl Run {
+    // Step 3.
+    fn ran_down(self) -> Run
+        ensures { λ r. ⌜ r ≡ ranDown self ⌝ }
+    {
+        let left = self.left;
+        if left <= 1 {
+            NO_RUN
+        } else {
+            Run {
+                kind: self.kind,
+                left: left - 1,
+            }
+        }
+    }
+}
 
 impl Drive {
     // Step 1.
@@ -18,7 +37,7 @@ impl Drive {
         ensures { λ r. ⌜ r ≡ aged self ⌝ }
     {
         self.with_counts(
-            pick16(self.bus, next16(self.age), self.age),
+            pick16(self.commands.stored == 1, next16(self.age), self.age),
             next16(self.since),
         )
     }
@@ -37,18 +56,6 @@ impl Drive {
         ))
     }
 
-    // Step 3.
-    fn ran_down(self) -> Drive
-        ensures { λ r. ⌜ r ≡ ranDown self ⌝ }
-    {
-        let left = self.left;
-        if left <= 1 {
-            self.with_run(rules::NO_RUN, 0)
-        } else {
-            self.with_run(self.run, left - 1)
-        }
-    }
-
     // Steps 1 to 3.
     pub(crate) fn advance(self) -> Advanced
         requires { ⌜ Ranges (self .params) ⌝ }
@@ -56,7 +63,7 @@ impl Drive {
     {
         let a = self.aged();
         let rank = a.ruling();
-        let m = a.moved(rank).ran_down();
+        let m = a.moved(rank).with_run(self.run.ran_down());
         let params = self.params;
         Advanced {
             drive: m,
@@ -73,14 +80,7 @@ impl Drive {
     pub fn status(self) -> u8
         ensures { λ r. ⌜ r ≡ statusOf self ⌝ }
     {
-        rules::status(
-            self.fault,
-            self.forcing,
-            self.run,
-            self.hand,
-            self.tool,
-            self.bus_on(),
-        )
+        rules::status(self.commands, self.run.kind, self.bus_on())
     }
 
     // Whether a report is due after steps 1 to 3, which left this status.
@@ -88,11 +88,15 @@ impl Drive {
         ensures { λ r. ⌜ r ≡ dueWith self status ⌝ }
     {
         let params = self.params;
-        let changed = rules::changed(params[table::ACT_POS_COV], self.position, self.lastpos);
+        let changed = rules::changed(
+            params[table::ACT_POS_COV],
+            self.position,
+            self.last.position,
+        );
         (params[table::MIN_REP_TIME] <= self.since)
-            & (!self.reported
+            & ((self.last.reported != 1)
                 | changed
-                | (status != self.laststatus)
+                | (status != self.last.status)
                 | (params[table::REP_PER] <= self.since))
     }
 

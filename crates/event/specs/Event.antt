@@ -1,5 +1,5 @@
 -- Document 01, 'Eleven kinds of event' and 'When an event is turned down' (2 to 8): the event record's six bytes.
-use mathlib.Core.Bool.{Bool, not, _&&_, _||_}
+use mathlib.Core.Bool.{Bool, true, false, not, _&&_, _||_}
 use mathlib.Core.List.{List, [], _∷_, _++_}
 use Prim.Native.Nat.{ℕ, _+_, _*_}
 use lib.Dec.{leb, ltb, eqb}
@@ -9,6 +9,7 @@ use Rattle.table.specs.Table.{known}
 use Rattle.event.specs.declared.Event.{Event}
 use Rattle.event.specs.declared.Decoded.{Decoded}
 use Rattle.event.specs.declared.Decoded.the-variants.{Accepted, Refused}
+use Rattle.event.specs.Kinds as Kind
 
 -- kind, then the data bytes a, b, c
 abbrev pub event : ℕ → ℕ → ℕ → ℕ → Event
@@ -28,38 +29,87 @@ badMark s = not (eqb (getD s 0 0) 0x5a) || not (eqb (getD s 1 0) 0xc3)
 
 -- 4: "The kind is not 1 to 11."
 abbrev pub badKind : ℕ → Bool
-badKind k = ltb k 1 || ltb 11 k
+badKind k = ltb k Kind.tick || ltb Kind.readParameter k
 
--- the data bytes that each kind uses: 1, 9 and 10 none; 3 and 8 all; 5 a and b; the others a
-abbrev pub usesA : ℕ → Bool
-usesA k = not ((eqb k 1 || eqb k 9) || eqb k 10)
+-- what document 01 says of one kind: whether it uses a, b and c, and which values of a it admits
+pub record Form : Type 0 where
+  pub kind : ℕ
+  pub a : Bool
+  pub b : Bool
+  pub c : Bool
+  pub admits : ℕ → Bool
 
-abbrev pub usesB : ℕ → Bool
-usesB k = (eqb k 3 || eqb k 5) || eqb k 8
+abbrev pub form : ℕ → Bool → Bool → Bool → (ℕ → Bool) → Form
+form k a b c p = record { kind = k; a = a; b = b; c = c; admits = p }
 
-abbrev pub usesC : ℕ → Bool
-usesC k = eqb k 3 || eqb k 8
+abbrev pub used : Bool
+used = true
+
+abbrev pub unused : Bool
+unused = false
+
+-- the values of a that a kind names: any byte, those up to `n`, those from `l` to `n`
+abbrev pub anything : ℕ → Bool
+anything a = true
+
+abbrev pub upTo : ℕ → ℕ → Bool
+upTo n a = leb a n
+
+abbrev pub fromTo : ℕ → ℕ → ℕ → Bool
+fromTo l n a = leb l a && leb a n
+
+-- the eleven kinds, in document 01's order
+abbrev pub forms : List Form
+forms =
+    -- "1 tick: one second passes."
+    form Kind.tick unused unused unused anything
+    -- "2 setpoint, a = 0 to 255."
+    ∷ form Kind.setpoint used unused unused anything
+    -- "3 LTE setpoint: a = property 51 to 54, b = percent, c = command"
+    ∷ form Kind.lteSetpoint used used used (fromTo 51 54)
+    -- "4 forcing, a as KNX DPT 2.001: 0 and 1 none, 2 forced to 0, 3 forced to 255."
+    ∷ form Kind.forcing used unused unused (upTo 3)
+    -- "5 hand: a = 1 on, with value b; a = 0 off, b not looked at."
+    ∷ form Kind.hand used used unused (upTo 1)
+    -- "6 calibration: a = 0 or 1, both start it"
+    ∷ form Kind.calibration used unused unused (upTo 1)
+    -- "7 fault: a = 1 present, 0 gone."
+    ∷ form Kind.fault used unused unused (upTo 1)
+    -- "8 parameter write: a = a number of the table, value 256 × b + c."
+    ∷ form Kind.write used used used known
+    -- "9 restart after power loss."
+    ∷ form Kind.restart unused unused unused anything
+    -- "10 read position."
+    ∷ form Kind.readPosition unused unused unused anything
+    -- "11 read parameter a, again a number of the table."
+    ∷ form Kind.readParameter used unused unused known
+    ∷ []
+
+-- the form of a kind; of a number that is none, one that refuses nothing, since 4 comes first
+abbrev pub formFrom : List Form → ℕ → Form
+formFrom [] k = form k used used used anything
+formFrom (f ∷ fs) k = pick (eqb (f .kind) k) f (formFrom fs k)
+
+unfoldable pub formOf : ℕ → Form
+formOf k = formFrom forms k
 
 -- 5: "An unused byte is not 0."
 abbrev pub unusedSet : Event → Bool
 unusedSet e =
-    ((not (usesA (e .kind)) && not (eqb (e .a) 0)) || (not (usesB (e .kind)) && not (eqb (e .b) 0)))
-    || (not (usesC (e .kind)) && not (eqb (e .c) 0))
+    ((not (formOf (e .kind) .a) && not (eqb (e .a) 0)) || (not (formOf (e .kind) .b) && not (eqb (e .b) 0)))
+    || (not (formOf (e .kind) .c) && not (eqb (e .c) 0))
 
--- 6: "In kind 3, 4, 5, 6, 7, 8 or 11, a is outside the values named above": 3 has properties 51 to 54, 4 has 0 to 3,
--- 5, 6 and 7 have 0 and 1, 8 and 11 the numbers of the table
+-- 6: "In kind 3, 4, 5, 6, 7, 8 or 11, a is outside the values named above."
 abbrev pub badA : ℕ → ℕ → Bool
-badA k a =
-    (((eqb k 3 && (ltb a 51 || ltb 54 a)) || (eqb k 4 && ltb 3 a)) || (((eqb k 5 || eqb k 6) || eqb k 7) && ltb 1 a))
-    || ((eqb k 8 || eqb k 11) && not (known a))
+badA k a = not (formOf k .admits a)
 
 -- 7: "In kind 3, c exceeds 2."
 abbrev pub badCommand : ℕ → ℕ → Bool
-badCommand k c = eqb k 3 && ltb 2 c
+badCommand k c = eqb k Kind.lteSetpoint && ltb Kind.release c
 
 -- 8: "In kind 3 with c 0 or 1, b exceeds 100."
 abbrev pub badPercent : ℕ → ℕ → ℕ → Bool
-badPercent k b c = (eqb k 3 && leb c 1) && ltb 100 b
+badPercent k b c = (eqb k Kind.lteSetpoint && leb c Kind.override) && ltb 100 b
 
 -- the first of 4 to 8 that fits kind and data bytes, 0 if none does
 unfoldable pub dataRefusal : Event → ℕ

@@ -47,9 +47,11 @@ admitted e h =
 
 -- so a write and a read of a parameter name a number of the table, and a percent that is used is at most 100
 pub known-write : (e : Event) → E.dataRefusal e ≡ 0 → e .kind ≡ 8 → known (e .a) ≡ true
+unfolding E.formOf
 known-write e h k = not-false (known (e .a)) (subst (λ (n : ℕ). E.badA n (e .a) ≡ false) k (admitted e h .a))
 
 pub known-read : (e : Event) → E.dataRefusal e ≡ 0 → e .kind ≡ 11 → known (e .a) ≡ true
+unfolding E.formOf
 known-read e h k = not-false (known (e .a)) (subst (λ (n : ℕ). E.badA n (e .a) ≡ false) k (admitted e h .a))
 
 pub percent-most : (e : Event) → E.dataRefusal e ≡ 0 → e .kind ≡ 3 → e .c ≤ 1 → e .b ≤ 100

@@ -7,7 +7,7 @@ use native.Mathlib.Omega.{arith}
 use native.Mathlib.Nat.{sub-zero}
 use lib.Dec.{leb, eqb}
 use borrow.Author.Tests.{leb-true, leb-false, le-leb, lt-leb, lt-ltb, eqb-true}
-use Rattle.numbers.specs.Numbers.{pick, next}
+use Rattle.numbers.specs.Numbers.{pick, on, next}
 use Rattle.numbers.specs.Laws.{cases, and-right}
 use Rattle.table.specs.Table.{rows, rowAt, allIn, timeout, rate}
 use Rattle.table.specs.Laws.{range-at, bounds}
@@ -16,8 +16,11 @@ use Rattle.event.specs.Event.{event, badKind, dataRefusal}
 use Rattle.event.specs.Laws.{by-kind, admitted, known-write}
 use Rattle.motion.specs.Motion.{toPosition, runTicks, toward}
 use Rattle.motion.specs.Laws.{run-ticks-pos}
+use Rattle.rules.specs.declared.Commands.{Commands}
 use Rattle.rules.specs.Rank.{forced, forbidsRun, busActive}
+use Rattle.damper.specs.declared.Run.{Run}
 use Rattle.damper.specs.declared.Drive.{Drive}
+use Rattle.damper.specs.Record.{run, noRun}
 use Rattle.damper.specs.WellFormed.{wellFormed, runFits}
 use Rattle.damper.specs.Tick.{aged, busOn, targetAt, advance, statusOf}
 use Rattle.damper.specs.Laws.{wf-ranges}
@@ -25,23 +28,15 @@ use Rattle.damper.specs.Step.{applied}
 use Rattle.invariant.specs.Effects as F
 use Rattle.invariant.specs.Kept as K
 use Rattle.history.specs.Readings as R
-use Rattle.history.specs.ReadLaws.{value-cons, age-cons, parameters-other, parameters-write}
-use Rattle.history.specs.RunLaws.{leftIn, run-below, run-below-tick, left-below, left-below-tick}
+use Rattle.history.specs.ReadLaws.{commands-cons, age-cons, parameters-other, parameters-write}
+use Rattle.history.specs.RunLaws.{leftIn, goingIn, run-below, run-below-tick}
 
 -- each field but position, since and the last report
 pub record Agrees (d : Drive) (h : List Event) : Type 0 where
   pub params : d .params ≡ R.parameters h
-  pub fault : d .fault ≡ R.faultIn h
-  pub forcing : d .forcing ≡ R.forcingIn h
-  pub hand : d .hand ≡ R.handIn h
-  pub handpos : d .handpos ≡ R.handValue h
-  pub tool : d .tool ≡ R.toolIn h
-  pub toolpos : d .toolpos ≡ R.toolValue h
-  pub bus : d .bus ≡ R.setpointIn h
-  pub setpoint : d .setpoint ≡ R.setpointValue h
+  pub commands : d .commands ≡ R.commandsIn h
   pub age : d .age ≡ min (R.setpointAge h) 65535
-  pub run : d .run ≡ R.runIn h
-  pub left : d .left ≡ leftIn h
+  pub run : d .run ≡ goingIn h
 
 -- the bound of the parameter that the setpoint's age is compared with
 timeout-most : (p : List ℕ) → allIn rows p ≡ true → timeout p ≤ 7200
@@ -57,13 +52,13 @@ capped n t h =
 pub bus-agrees : (d : Drive) (h : List Event) → wellFormed d ≡ true → Agrees d h → busOn d ≡ R.busIn h
 unfolding R.busIn
 bus-agrees d h w g =
-    rw (g .bus, g .age)
+    rw (g .commands, g .age)
     (rw (capped (R.setpointAge h) (timeout (d .params)) (let l = timeout-most (d .params) (K.parts d w .params) in omega arith))
     (rw (g .params)))
 
 pub status-agrees : (d : Drive) (h : List Event) → wellFormed d ≡ true → Agrees d h → statusOf d ≡ R.statusIn h
 unfolding R.statusIn
-status-agrees d h w g = rw (bus-agrees d h w g) (rw (g .fault, g .hand, g .tool, g .run, g .forcing))
+status-agrees d h w g = rw (bus-agrees d h w g) (rw (g .commands, g .run))
 
 age-law : (r s t b : Bool) (a n : ℕ) → a ≡ min n 65535
     → pick r 0 (pick s 0 (pick t (pick b (next a) a) a)) ≡ min (pick r 0 (pick s 0 (pick (b && t) (n + 1) n))) 65535
@@ -75,80 +70,60 @@ age-law false false false true a n e = e
 age-law false false false false a n e = e
 
 -- where a run is forbidden there is none
-no-run : (r n k : ℕ) (f : Bool) → runFits r n k f ≡ true → f ≡ true → (r ≡ 0) × (n ≡ 0)
+no-run : (r : Run) (k : ℕ) (f : Bool) → runFits r k f ≡ true → f ≡ true → r ≡ noRun
 unfolding runFits
-no-run r n k f h e =
-    let p = and-right (leb r 3) _ h in
-    cases (eqb r 0)
-    (λ z. (eqb-true r 0 z, eqb-true n 0 (rw z at p)))
-    (λ z. absurd (false≢true (sym (and-false (leb 1 n && leb n k)) ∙ (rw (z, e) at p))))
+no-run r k f h e =
+    let p = and-right (leb (r .kind) 3) _ h in
+    cases (eqb (r .kind) 0)
+    (λ z i. run (eqb-true (r .kind) 0 z i) (eqb-true (r .left) 0 (rw z at p) i))
+    (λ z. absurd (false≢true (sym (and-false (leb 1 (r .left) && leb (r .left) k)) ∙ (rw (z, e) at p))))
 
 -- what is forbidden already need not be ended
-ended-already : (b c : Bool) (r : ℕ) → (b ≡ true → r ≡ 0) → pick c 0 r ≡ pick (b || c) 0 r
+ended-already : (b c : Bool) (r : Run) → (b ≡ true → r ≡ noRun) → pick c noRun r ≡ pick (b || c) noRun r
 ended-already true true r h = refl
 ended-already true false r h = h refl
 ended-already false c r h = refl
 
-ended-later : (b c : Bool) (r : ℕ) → (c ≡ true → r ≡ 0) → pick (b || false) 0 r ≡ pick (b || c) 0 r
+ended-later : (b c : Bool) (r : Run) → (c ≡ true → r ≡ noRun) → pick (b || false) noRun r ≡ pick (b || c) noRun r
 ended-later true c r h = refl
 ended-later false true r h = h refl
 ended-later false false r h = refl
 
 -- the run and its ticks left, with one event more, as the record takes them
 module _ (h : List Event) (pos : 1 ≤ runTicks (rate (R.parameters h)))
-    (by-fault : R.faultIn h ≡ true → (R.runIn h ≡ 0) × (leftIn h ≡ 0))
-    (by-forcing : forced (R.forcingIn h) ≡ true → (R.runIn h ≡ 0) × (leftIn h ≡ 0)) where
-  abbrev Run : ℕ → Type 0
-  Run k = (a b c : ℕ) → R.runIn (event k a b c ∷ h) ≡ F.runBy k a (R.parameters h) (R.faultIn h) (R.forcingIn h) (R.runIn h) (leftIn h)
+    (by-fault : on (R.faultIn h) ≡ true → goingIn h ≡ noRun) (by-forcing : forced (R.forcingIn h) ≡ true → goingIn h ≡ noRun) where
+  abbrev Going : ℕ → Type 0
+  Going k = (a b c : ℕ) → goingIn (event k a b c ∷ h) ≡ F.runBy k a (R.parameters h) (R.commandsIn h) (goingIn h)
 
-  run-read : (k : ℕ) → badKind k ≡ false → Run k
+  going-read : (k : ℕ) → badKind k ≡ false → Going k
   unfolding R.runIn R.latest R.ended R.ticks leftIn
-  run-read =
-      by-kind Run
+  going-read =
+      by-kind Going
       (λ a b c. run-below-tick (event 1 a b c) (R.latest R.isStart h) refl refl)
       (λ a b c. run-below (event 2 a b c) (R.latest R.isStart h) refl)
       (λ a b c. run-below (event 3 a b c) (R.latest R.isStart h) refl)
-      (λ a b c. run-below (event 4 a b c) (R.latest R.isStart h) refl ∙ ended-already (R.faultIn h) (forced a) _ (λ q. by-fault q .0))
+      (λ a b c. run-below (event 4 a b c) (R.latest R.isStart h) refl ∙ ended-already (on (R.faultIn h)) (forced a) _ by-fault)
       (λ a b c. run-below (event 5 a b c) (R.latest R.isStart h) refl)
-      (λ a b c. rw (lt-ltb 0 _ pos))
-      (λ a b c. run-below (event 7 a b c) (R.latest R.isStart h) refl ∙ ended-later (eqb a 1) (forced (R.forcingIn h)) _ (λ q. by-forcing q .0))
+      (λ a b c. rw (lt-ltb 0 _ pos, sub-zero (runTicks (rate (R.parameters h)))))
+      (λ a b c. run-below (event 7 a b c) (R.latest R.isStart h) refl ∙ ended-later (eqb a 1) (forced (R.forcingIn h)) _ by-forcing)
       (λ a b c. run-below (event 8 a b c) (R.latest R.isStart h) refl)
-      (λ a b c. rw (lt-ltb 0 _ pos))
+      (λ a b c. rw (lt-ltb 0 _ pos, sub-zero (runTicks (rate (R.parameters h)))))
       (λ a b c. run-below (event 10 a b c) (R.latest R.isStart h) refl)
       (λ a b c. run-below (event 11 a b c) (R.latest R.isStart h) refl)
-
-  abbrev Left : ℕ → Type 0
-  Left k = (a b c : ℕ) → leftIn (event k a b c ∷ h) ≡ F.leftBy k a (R.parameters h) (R.faultIn h) (R.forcingIn h) (leftIn h)
-
-  left-read : (k : ℕ) → badKind k ≡ false → Left k
-  unfolding R.latest R.ended R.ticks leftIn
-  left-read =
-      by-kind Left
-      (λ a b c. left-below-tick (event 1 a b c) (R.latest R.isStart h) refl refl)
-      (λ a b c. left-below (event 2 a b c) (R.latest R.isStart h) refl)
-      (λ a b c. left-below (event 3 a b c) (R.latest R.isStart h) refl)
-      (λ a b c. left-below (event 4 a b c) (R.latest R.isStart h) refl ∙ ended-already (R.faultIn h) (forced a) _ (λ q. by-fault q .1))
-      (λ a b c. left-below (event 5 a b c) (R.latest R.isStart h) refl)
-      (λ a b c. rw (sub-zero (runTicks (rate (R.parameters h)))))
-      (λ a b c. left-below (event 7 a b c) (R.latest R.isStart h) refl ∙ ended-later (eqb a 1) (forced (R.forcingIn h)) _ (λ q. by-forcing q .1))
-      (λ a b c. left-below (event 8 a b c) (R.latest R.isStart h) refl)
-      (λ a b c. rw (sub-zero (runTicks (rate (R.parameters h)))))
-      (λ a b c. left-below (event 10 a b c) (R.latest R.isStart h) refl)
-      (λ a b c. left-below (event 11 a b c) (R.latest R.isStart h) refl)
 
 -- Agreement is kept by every accepted event.
 module _ (d : Drive) (h : List Event) (w : wellFormed d ≡ true) (g : Agrees d h) (e : Event) (r : dataRefusal e ≡ 0) where
   ok : badKind (e .kind) ≡ false
   ok = admitted e r .kind
 
-  forbidden : forbidsRun (d .fault) (d .forcing) ≡ true → (R.runIn h ≡ 0) × (leftIn h ≡ 0)
-  forbidden q = let z = no-run (d .run) (d .left) _ _ (K.parts d w .run) q in (sym (g .run) ∙ z .0, sym (g .left) ∙ z .1)
+  forbidden : forbidsRun (d .commands) ≡ true → goingIn h ≡ noRun
+  forbidden q = sym (g .run) ∙ no-run (d .run) _ _ (K.parts d w .run) q
 
-  by-fault : R.faultIn h ≡ true → (R.runIn h ≡ 0) × (leftIn h ≡ 0)
-  by-fault q = forbidden (rw (g .fault, q))
+  by-fault : on (R.faultIn h) ≡ true → goingIn h ≡ noRun
+  by-fault q = forbidden (rw (g .commands) (rw q))
 
-  by-forcing : forced (R.forcingIn h) ≡ true → (R.runIn h ≡ 0) × (leftIn h ≡ 0)
-  by-forcing q = forbidden (rw (g .forcing, q) (or-true (d .fault)))
+  by-forcing : forced (R.forcingIn h) ≡ true → goingIn h ≡ noRun
+  by-forcing q = forbidden (rw (g .commands) (rw q (or-true (on (R.faultIn h)))))
 
   ticks-pos : 1 ≤ runTicks (rate (R.parameters h))
   ticks-pos = run-ticks-pos _ (rw (g .params) at (wf-ranges d w .rate-least))
@@ -160,49 +135,33 @@ module _ (d : Drive) (h : List Event) (w : wellFormed d ≡ true) (g : Agrees d 
       (λ k. rw (k, g .params) (sym (parameters-write e h k (known-write e r (eqb-true (e .kind) 8 k)))))
       (λ k. rw (k, g .params) (sym (parameters-other e h k)))
 
-  run-kept : applied d e .drive .run ≡ R.runIn (e ∷ h)
+  run-kept : applied d e .drive .run ≡ goingIn (e ∷ h)
   run-kept =
       F.run-after d e ok
-      ∙ rw (g .run, g .left, g .fault, g .forcing, g .params)
-      (sym (run-read h ticks-pos by-fault by-forcing (e .kind) ok (e .a) (e .b) (e .c)))
-
-  left-kept : applied d e .drive .left ≡ leftIn (e ∷ h)
-  left-kept =
-      F.left-after d e ok
-      ∙ rw (g .left, g .fault, g .forcing, g .params)
-      (sym (left-read h ticks-pos by-fault by-forcing (e .kind) ok (e .a) (e .b) (e .c)))
+      ∙ rw (g .run, g .commands, g .params) (sym (going-read h ticks-pos by-fault by-forcing (e .kind) ok (e .a) (e .b) (e .c)))
 
   pub agrees-applied : Agrees (applied d e .drive) (e ∷ h)
-  unfolding R.faultIn R.forcingIn R.handIn R.handValue R.toolIn R.toolValue R.setpointIn R.setpointValue
   agrees-applied =
       record {
         params = params-kept;
-        fault = F.fault-after d e ok ∙ rw (g .fault) (sym (value-cons false (λ (x : Event). eqb (x .a) 1) R.isFault e h));
-        forcing = F.forcing-after d e ok ∙ rw (g .forcing) (sym (value-cons 0 (λ (x : Event). x .a) R.isForcing e h));
-        hand = F.hand-after d e ok ∙ rw (g .hand) (sym (value-cons false (λ (x : Event). eqb (x .a) 1) R.isHand e h));
-        handpos = F.handpos-after d e ok ∙ rw (g .handpos) (sym (value-cons 0 (λ (x : Event). pick (eqb (x .a) 1) (x .b) 0) R.isHand e h));
-        tool = F.tool-after d e ok ∙ rw (g .tool) (sym (value-cons false (λ (x : Event). eqb (x .c) 1) R.isTool e h));
-        toolpos = F.toolpos-after d e ok ∙ rw (g .toolpos) (sym (value-cons 0 (λ (x : Event). pick (eqb (x .c) 1) (toPosition (x .b)) 0) R.isTool e h));
-        bus = F.bus-after d e ok ∙ rw (g .bus) (sym (value-cons false (λ (x : Event). true) R.isSetpoint e h));
-        setpoint = F.setpoint-after d e ok ∙ rw (g .setpoint) (sym (value-cons 0 (λ (x : Event). pick (eqb (x .kind) 2) (x .a) (toPosition (x .b))) R.isSetpoint e h));
+        commands = F.commands-after d e ok ∙ rw (g .commands) (sym (commands-cons e h));
         age =
-            F.age-after d e ok ∙ age-law (R.isRestart e) (R.isSetpoint e) (R.isTick e) (d .bus) (d .age) (R.setpointAge h) (g .age)
-            ∙ rw (g .bus) (rw (age-cons e h));
+            F.age-after d e ok ∙ age-law (R.isRestart e) (R.isSetpoint e) (R.isTick e) (on (d .commands .stored)) (d .age) (R.setpointAge h) (g .age)
+            ∙ rw (g .commands) (rw (age-cons e h));
         run = run-kept;
-        left = left-kept;
       }
 
-same-bus : (b b′ : Bool) (a a′ t t′ : ℕ) → b ≡ b′ → a ≡ a′ → t ≡ t′ → busActive b a t ≡ busActive b′ a′ t′
+same-bus : (b b′ : Commands) (a a′ t t′ : ℕ) → b ≡ b′ → a ≡ a′ → t ≡ t′ → busActive b a t ≡ busActive b′ a′ t′
 same-bus b b′ a a′ t t′ p q r = rw (p, q, r)
 
 -- the move of a tick is the one read off the list
 module _ (d : Drive) (h : List Event) (w : wellFormed d ≡ true) (g : Agrees d h) (p : d .position ≡ R.positionIn h) (e : Event)
     (r : dataRefusal e ≡ 0) (w′ : wellFormed (applied d e .drive) ≡ true) where
-  bus-next : e .kind ≡ 1 → busActive (d .bus) (pick (d .bus) (next (d .age)) (d .age)) (timeout (d .params)) ≡ R.busIn (e ∷ h)
+  bus-next : e .kind ≡ 1 → busActive (d .commands) (pick (on (d .commands .stored)) (next (d .age)) (d .age)) (timeout (d .params)) ≡ R.busIn (e ∷ h)
   bus-next k =
       let o = admitted e r .kind in
-      let b : applied d e .drive .bus ≡ d .bus = F.bus-after d e o ∙ rw k in
-      let a : applied d e .drive .age ≡ pick (d .bus) (next (d .age)) (d .age) = F.age-after d e o ∙ rw k in
+      let b : applied d e .drive .commands ≡ d .commands = F.commands-after d e o ∙ rw k in
+      let a : applied d e .drive .age ≡ pick (on (d .commands .stored)) (next (d .age)) (d .age) = F.age-after d e o ∙ rw k in
       let q : applied d e .drive .params ≡ d .params = F.params-after d e o ∙ rw k in
       sym (same-bus _ _ _ _ _ _ b a (ap timeout q)) ∙ bus-agrees (applied d e .drive) (e ∷ h) w′ (agrees-applied d h w g e r)
 
@@ -211,7 +170,7 @@ module _ (d : Drive) (h : List Event) (w : wellFormed d ≡ true) (g : Agrees d 
   unfolding aged targetAt R.targetFrom R.rankAt
   move-agrees k =
       F.advance-position d
-      ∙ rw (bus-next k) (rw (p, g .fault, g .forcing, g .run, g .hand, g .tool, g .handpos, g .toolpos, g .bus, g .setpoint, g .params))
+      ∙ rw (bus-next k) (rw (p, g .commands, g .run, g .params))
 
   pub position-kept : applied d e .drive .position ≡ R.positionIn (e ∷ h)
   unfolding R.positionIn

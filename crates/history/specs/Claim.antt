@@ -13,11 +13,10 @@ use Rattle.motion.specs.Motion.{toward}
 use Rattle.rules.specs.Report.{changed}
 use Rattle.answer.specs.declared.Answer.{Answer}
 use Rattle.answer.specs.declared.Answer.the-variants.{No, Done, Par, At, Tick, Report}
-use Rattle.damper.specs.declared.Drive.{Drive}
 use Rattle.damper.specs.declared.Outcome.{Outcome}
 use Rattle.damper.specs.Record.{freshDrive}
+use Rattle.damper.specs.Carry.{Step, outcomes}
 use Rattle.answer.specs.Answer.{numberOf, isReport}
-use Rattle.damper.specs.Step.{stepOf}
 use Rattle.history.specs.Readings.{isTick, isRestart, parameters, targetFrom, positionIn, statusIn, judgement}
 
 -- one record of the list: its bytes, the answer that it got and the damper's position after it
@@ -144,26 +143,12 @@ abbrev pub Claim : Trace → Type 0
 Claim [] = Unit {0}
 Claim (m ∷ t) = Holds m t × Claim t
 
--- the one name by which the trace calls the drive
-abbrev pub drive : Drive → List ℕ → Outcome
-drive d s = stepOf d s
-
--- "each later one to the drive that the one before left, refused or not": what a list of records gives, in its order
-unfoldable pub outcomes : Drive → List (List ℕ) → List Outcome
-outcomes d [] = []
-outcomes d (s ∷ ss) = let o = drive d s in o ∷ outcomes (o .drive) ss
-
--- the drive after them
-unfoldable pub driveAfter : Drive → List Outcome → Drive
-driveAfter d [] = d
-driveAfter d (o ∷ os) = driveAfter (o .drive) os
-
 -- the trace of a list of records and of what they gave, after the trace `t`
 unfoldable pub traceOn : Trace → List (List ℕ) → List Outcome → Trace
 traceOn t [] os = t
 traceOn t (s ∷ ss) [] = t
 traceOn t (s ∷ ss) (o ∷ os) = traceOn (momentOf s o ∷ t) ss os
 
--- "The first event record goes to a fresh drive"
-abbrev pub traceOf : List (List ℕ) → Trace
-traceOf l = traceOn [] l (outcomes freshDrive l)
+-- "The first event record goes to a fresh drive", whose step is `step`
+abbrev pub traceOf : Step → List (List ℕ) → Trace
+traceOf step l = traceOn [] l (outcomes step freshDrive l)

@@ -7,7 +7,7 @@ use native.Mathlib.Omega.{arith}
 use lib.Dec.{leb, eqb}
 use lib.ListN.{length}
 use borrow.Author.Tests.{leb-true, le-leb, eqb-true, ne-eqb}
-use Rattle.numbers.specs.Numbers.{pick, next}
+use Rattle.numbers.specs.Numbers.{pick, on, next}
 use Rattle.numbers.specs.Laws.{and-left, and-right, not-false}
 use Rattle.table.specs.Table.{minRepTime, actPosCov, repPer}
 use Rattle.event.specs.declared.Event.{Event}
@@ -18,10 +18,12 @@ use Rattle.rules.specs.Refusal.{wrongProperty, outsideTable, lowAboveHigh, rate
 use Rattle.rules.specs.RefusalLaws.{refusal-passed}
 use Rattle.answer.specs.declared.Answer.{Answer}
 use Rattle.answer.specs.declared.Answer.the-variants.{No, Done, Par, At, Tick, Report}
+use Rattle.damper.specs.declared.Last.{Last}
 use Rattle.damper.specs.declared.Drive.{Drive}
 use Rattle.damper.specs.declared.Advanced.{Advanced}
 use Rattle.damper.specs.declared.Outcome.{Outcome}
 use Rattle.answer.specs.Answer.{isReport}
+use Rattle.damper.specs.Record.{last}
 use Rattle.damper.specs.WellFormed.{wellFormed}
 use Rattle.damper.specs.Tick.{advance, due, dueWith, statusOf}
 use Rattle.damper.specs.Step.{outcome, tickWith, ticked, applied, judgedBy}
@@ -34,8 +36,8 @@ use Rattle.history.specs.Claim.{momentOf}
 use Rattle.history.specs.Agree.{Agrees, agrees-applied, position-kept, move-agrees, status-agrees}
 
 -- the last report that the record holds
-abbrev pub lastOf : Drive → C.Sent
-lastOf d = pick (d .reported) (C.sent (d .lastpos) (d .laststatus)) C.silent
+abbrev pub lastOf : Last → C.Sent
+lastOf l = pick (on (l .reported)) (C.sent (l .position) (l .status)) C.silent
 
 -- the record agrees with the list, and the trace with the record
 pub record Good (d : Drive) (t : C.Trace) : Type 0 where
@@ -43,7 +45,7 @@ pub record Good (d : Drive) (t : C.Trace) : Type 0 where
   pub agrees : Agrees d (C.accepted t)
   pub position : d .position ≡ R.positionIn (C.accepted t)
   pub trace : C.positionAfter t ≡ d .position
-  pub last : lastOf d ≡ C.lastReport t
+  pub last : lastOf (d .last) ≡ C.lastReport t
 
 -- what the record `s` does to the drive `d` after the trace `t`, `o` being the outcome
 pub record Facts (d : Drive) (t : C.Trace) (s : List ℕ) (o : Outcome) : Type 0 where
@@ -59,8 +61,8 @@ pub record Facts (d : Drive) (t : C.Trace) (s : List ℕ) (o : Outcome) : Type 0
   -- what is due is sent
   pub due-sent : C.acceptedAs R.isTick (momentOf s o) t ≡ true → C.reports (momentOf s o) ≡ false
       → minRepTime (C.inForce (momentOf s o) t) ≤ next (d .since)
-      → (d .reported ≡ true) × (R.statusIn (C.accepted (momentOf s o ∷ t)) ≡ d .laststatus)
-      × (changed (actPosCov (C.inForce (momentOf s o) t)) (R.positionIn (C.accepted (momentOf s o ∷ t))) (d .lastpos) ≡ false)
+      → (on (d .last .reported) ≡ true) × (R.statusIn (C.accepted (momentOf s o ∷ t)) ≡ d .last .status)
+      × (changed (actPosCov (C.inForce (momentOf s o) t)) (R.positionIn (C.accepted (momentOf s o ∷ t))) (d .last .position) ≡ false)
   pub move : C.Move (momentOf s o) t
   pub content : C.Content (momentOf s o) t
   pub others : C.Others (momentOf s o) t
@@ -70,7 +72,7 @@ pub record Facts (d : Drive) (t : C.Trace) (s : List ℕ) (o : Outcome) : Type 0
 -- the list's own judgement is that of the record
 pub judged : (d : Drive) (t : C.Trace) (s : List ℕ) → Good d t → judgedBy d s ≡ R.judgement (C.accepted t) s
 unfolding R.judgement
-judged d t s g = rw (g .agrees .params, g .agrees .run, g .agrees .fault, g .agrees .forcing)
+judged d t s g = rw (g .agrees .params, g .agrees .run, g .agrees .commands)
 
 -- no refusal that looks at bytes or state has number 1
 abbrev NotOne : ℕ → Type 0
@@ -137,13 +139,11 @@ since-counts false true false n e f = refl
 since-counts false false q n e f = refl
 
 -- the last report after a restart, a report or neither
-last-law : (r q v : Bool) (p p′ s s′ : ℕ) (x : C.Sent) (y : C.Sent) → (q ≡ true → x ≡ C.sent p′ s′) → (q ≡ false → x ≡ C.silent)
-    → pick v (C.sent p s) C.silent ≡ y
-    → pick (pick r false (pick q true v)) (C.sent (pick r 0 (pick q p′ p)) (pick r 0 (pick q s′ s))) C.silent
-    ≡ pick r C.silent (C.orEarlier x y)
-last-law true q v p p′ s s′ x y a b c = refl
-last-law false true v p p′ s s′ x y a b c = rw (a refl)
-last-law false false v p p′ s s′ x y a b c = rw (b refl) c
+last-law : (r q : Bool) (p s : ℕ) (l : Last) (x y : C.Sent) → (q ≡ true → x ≡ C.sent p s) → (q ≡ false → x ≡ C.silent) → lastOf l ≡ y
+    → lastOf (pick r (last 0 0 0) (pick q (last 1 p s) l)) ≡ pick r C.silent (C.orEarlier x y)
+last-law true q p s l x y a b c = refl
+last-law false true p s l x y a b c = rw (a refl)
+last-law false false p s l x y a b c = rw (b refl) c
 
 pub silent-in : (a : Answer) → isReport a ≡ false → C.reportIn a ≡ C.silent
 silent-in (No n) e = refl
@@ -227,18 +227,18 @@ module _ (d : Drive) (t : C.Trace) (s : List ℕ) (g : Good d t) (j : R.judgemen
       (and-left (leb (minRepTime (advance d .drive .params)) (advance d .drive .since)) _ q))
 
   not-due : e .kind ≡ 1 → due (advance d .drive) ≡ false → minRepTime (d .params) ≤ next (d .since)
-      → (d .reported ≡ true) × (R.statusIn (e ∷ h) ≡ d .laststatus)
-      × (changed (actPosCov (d .params)) (R.positionIn (e ∷ h)) (d .lastpos) ≡ false)
+      → (on (d .last .reported) ≡ true) × (R.statusIn (e ∷ h) ≡ d .last .status)
+      × (changed (actPosCov (d .params)) (R.positionIn (e ∷ h)) (d .last .position) ≡ false)
   unfolding dueWith
   not-due k q l =
       let a = advance d .drive in
       let x : minRepTime (a .params) ≤ a .since = rw (F.advance-params d, F.advance-since d) l in
       let z =
-      not-due-law (leb (minRepTime (a .params)) (a .since)) (not (a .reported)) (changed (actPosCov (a .params)) (a .position) (a .lastpos))
-      (not (eqb (statusOf a) (a .laststatus))) (leb (repPer (a .params)) (a .since)) q (le-leb _ _ x) in (
-        sym (F.advance-reported d) ∙ not-false (a .reported) (z .0),
-        sym (status-tick k) ∙ eqb-true _ _ (not-false (eqb (statusOf a) (a .laststatus)) (z .2)) ∙ F.advance-laststatus d,
-        sym (same-changed _ _ _ _ _ _ (ap actPosCov (F.advance-params d)) (position-tick k) (F.advance-lastpos d)) ∙ z .1,
+      not-due-law (leb (minRepTime (a .params)) (a .since)) (not (on (a .last .reported))) (changed (actPosCov (a .params)) (a .position) (a .last .position))
+      (not (eqb (statusOf a) (a .last .status))) (leb (repPer (a .params)) (a .since)) q (le-leb _ _ x) in (
+        sym (ap (λ (l : Last). on (l .reported)) (F.advance-last d)) ∙ not-false (on (a .last .reported)) (z .0),
+        sym (status-tick k) ∙ eqb-true _ _ (not-false (eqb (statusOf a) (a .last .status)) (z .2)) ∙ ap (λ (l : Last). l .status) (F.advance-last d),
+        sym (same-changed _ _ _ _ _ _ (ap actPosCov (F.advance-params d)) (position-tick k) (ap (λ (l : Last). l .position) (F.advance-last d))) ∙ z .1,
       )
 
   tick-kind : C.acceptedAs R.isTick (momentOf s (applied d e)) t ≡ true → e .kind ≡ 1
@@ -253,10 +253,10 @@ module _ (d : Drive) (t : C.Trace) (s : List ℕ) (g : Good d t) (j : R.judgemen
       → C.reportIn (applied d e .answer) ≡ C.sent (advance d .drive .position) (statusOf (advance d .drive))
   sent-what k q = ap C.reportIn (F.answer-report d e k q)
 
-  last′ : lastOf (applied d e .drive) ≡ pick (R.isRestart e) C.silent (C.orEarlier (C.reportIn (applied d e .answer)) (C.lastReport t))
+  last′ : lastOf (applied d e .drive .last) ≡ pick (R.isRestart e) C.silent (C.orEarlier (C.reportIn (applied d e .answer)) (C.lastReport t))
   last′ =
-      rw (F.reported-after d e ok, F.lastpos-after d e ok, F.laststatus-after d e ok)
-      (last-law (R.isRestart e) (R.isTick e && due (advance d .drive)) (d .reported) (d .lastpos) _ (d .laststatus) _ _ _
+      rw (F.last-after d e ok)
+      (last-law (R.isRestart e) (R.isTick e && due (advance d .drive)) _ _ (d .last) _ _
       (λ q. sent-what (eqb-true (e .kind) 1 (and-left (R.isTick e) _ q)) (and-right (R.isTick e) _ q))
       (λ q. silent-in (applied d e .answer) (F.report-after d e ok ∙ q))
       (g .last))

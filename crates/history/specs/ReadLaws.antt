@@ -6,12 +6,15 @@ use Prim.Native.Nat.{ℕ, _+_}
 use lib.Dec.{eqb}
 use lib.ListN.{set}
 use borrow.Author.Tests.{ltb-true}
-use Rattle.numbers.specs.Numbers.{pick}
+use Rattle.numbers.specs.Numbers.{pick, on, bit}
 use Rattle.table.specs.declared.Row.{Row}
 use Rattle.table.specs.Table.{rows, placeFrom, placeOf, known}
 use Rattle.table.specs.Laws.{by-number}
 use Rattle.event.specs.declared.Event.{Event}
 use Rattle.event.specs.Event.{valueOf}
+use Rattle.motion.specs.Motion.{toPosition}
+use Rattle.rules.specs.Commands.{commands}
+use Rattle.invariant.specs.Effects.{commandsBy}
 use Rattle.history.specs.Readings as R
 
 after-below : (e : Event) (h : List Event) (x : R.Found) → R.afterIn (e ∷ h) (R.below e x) ≡ e ∷ R.afterIn h x
@@ -48,23 +51,37 @@ value-cons none of p e h = rw (current-cons e h) (go (R.isRestart e))
     go true = refl
     go false = latest-cons none of p e (R.current h)
 
+-- the commands, with one event more
+pub commands-cons : (e : Event) (h : List Event) → R.commandsIn (e ∷ h) ≡ commandsBy e (R.commandsIn h)
+unfolding R.faultIn R.forcingIn R.handIn R.handValue R.toolIn R.toolValue R.setpointIn R.setpointValue
+commands-cons e h i =
+    commands
+    (value-cons 0 (λ (x : Event). x .a) R.isFault e h i)
+    (value-cons 0 (λ (x : Event). x .a) R.isForcing e h i)
+    (value-cons 0 (λ (x : Event). x .a) R.isHand e h i)
+    (value-cons 0 (λ (x : Event). pick (on (x .a)) (x .b) 0) R.isHand e h i)
+    (value-cons 0 (λ (x : Event). bit (eqb (x .c) 1) 1) R.isTool e h i)
+    (value-cons 0 (λ (x : Event). pick (eqb (x .c) 1) (toPosition (x .b)) 0) R.isTool e h i)
+    (value-cons 0 (λ (x : Event). 1) R.isSetpoint e h i)
+    (value-cons 0 (λ (x : Event). pick (eqb (x .kind) 2) (x .a) (toPosition (x .b))) R.isSetpoint e h i)
+
 -- the age of the setpoint, with one event more
 pub age-cons : (e : Event) (h : List Event)
     → R.setpointAge (e ∷ h)
-    ≡ pick (R.isRestart e) 0 (pick (R.isSetpoint e) 0 (pick (R.setpointIn h && R.isTick e) (R.setpointAge h + 1) (R.setpointAge h)))
+    ≡ pick (R.isRestart e) 0 (pick (R.isSetpoint e) 0 (pick (on (R.setpointIn h) && R.isTick e) (R.setpointAge h + 1) (R.setpointAge h)))
 unfolding R.setpointAge R.setpointIn R.latest R.ticks
 age-cons e h = rw (current-cons e h) (go (R.isRestart e))
   where
     at : (c : Bool) (x : R.Found)
         → R.ticksAfter (pick c (R.found [] e (R.current h)) (R.below e x))
-        ≡ pick c 0 (pick (R.valueIn false (λ y. true) x && R.isTick e) (R.ticksAfter x + 1) (R.ticksAfter x))
+        ≡ pick c 0 (pick (on (R.valueIn 0 (λ y. 1) x) && R.isTick e) (R.ticksAfter x + 1) (R.ticksAfter x))
     at true x = refl
     at false R.nothing = refl
     at false (R.found a y b) = refl
 
     go : (b : Bool)
         → R.ticksAfter (R.latest R.isSetpoint (pick b [] (e ∷ R.current h)))
-        ≡ pick b 0 (pick (R.isSetpoint e) 0 (pick (R.valueIn false (λ y. true) (R.latest R.isSetpoint (R.current h)) && R.isTick e) (R.ticksAfter (R.latest R.isSetpoint (R.current h)) + 1) (R.ticksAfter (R.latest R.isSetpoint (R.current h)))))
+        ≡ pick b 0 (pick (R.isSetpoint e) 0 (pick (on (R.valueIn 0 (λ y. 1) (R.latest R.isSetpoint (R.current h))) && R.isTick e) (R.ticksAfter (R.latest R.isSetpoint (R.current h)) + 1) (R.ticksAfter (R.latest R.isSetpoint (R.current h)))))
     go true = refl
     go false = at (R.isSetpoint e) (R.latest R.isSetpoint (R.current h))
 

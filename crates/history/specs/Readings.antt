@@ -1,51 +1,54 @@
 -- Document 01, 'Who commands', "Read off the list of events (accepted ones only, after the last restart)". A history is the
 -- accepted events, the latest first; no reading looks at a drive record, a step or an answer.
-use mathlib.Core.Bool.{Bool, true, false, not, _&&_, _||_}
+use mathlib.Core.Bool.{Bool, false, not, _&&_, _||_}
 use mathlib.Core.List.{List, [], _∷_}
 use Prim.Native.Nat.{ℕ, _+_}
 use lib.Dec.{ltb, eqb}
 use lib.ListN.{getD}
-use Rattle.numbers.specs.Numbers.{pick}
+use Rattle.numbers.specs.Numbers.{pick, on, bit}
 use Rattle.table.specs.declared.Row.{Row}
 use Rattle.table.specs.Table.{rows, damperMode, startSynchronization, timeout, rate, low, high}
 use Rattle.event.specs.declared.Event.{Event}
+use Rattle.event.specs.Kinds as Kind
 use Rattle.event.specs.Event.{valueOf}
 use Rattle.motion.specs.Motion.{toPosition, runTicks, toward}
+use Rattle.rules.specs.declared.Commands.{Commands}
+use Rattle.rules.specs.Commands.{commands}
 use Rattle.rules.specs.Rank.{running, startRun, forced, forbidsRun, busActive, activeByte, rulingRank, targets}
 use Rattle.rules.specs.Report.{status}
 use Rattle.rules.specs.Refusal.{refusal}
 
 -- which events say what
 abbrev pub isTick : Event → Bool
-isTick e = eqb (e .kind) 1
+isTick e = eqb (e .kind) Kind.tick
 
 abbrev pub isRestart : Event → Bool
-isRestart e = eqb (e .kind) 9
+isRestart e = eqb (e .kind) Kind.restart
 
 abbrev pub isFault : Event → Bool
-isFault e = eqb (e .kind) 7
+isFault e = eqb (e .kind) Kind.fault
 
 abbrev pub isForcing : Event → Bool
-isForcing e = eqb (e .kind) 4
+isForcing e = eqb (e .kind) Kind.forcing
 
 abbrev pub isHand : Event → Bool
-isHand e = eqb (e .kind) 5
+isHand e = eqb (e .kind) Kind.hand
 
 -- "the tool's being command 1 or 2"
 abbrev pub isTool : Event → Bool
-isTool e = eqb (e .kind) 3 && not (eqb (e .c) 0)
+isTool e = eqb (e .kind) Kind.lteSetpoint && not (eqb (e .c) Kind.normal)
 
 -- "kind 2 or command 0"
 abbrev pub isSetpoint : Event → Bool
-isSetpoint e = eqb (e .kind) 2 || (eqb (e .kind) 3 && eqb (e .c) 0)
+isSetpoint e = eqb (e .kind) Kind.setpoint || (eqb (e .kind) Kind.lteSetpoint && eqb (e .c) Kind.normal)
 
 -- a parameter write of number `n`
 abbrev pub isWrite : ℕ → Event → Bool
-isWrite n e = eqb (e .kind) 8 && eqb (e .a) n
+isWrite n e = eqb (e .kind) Kind.write && eqb (e .a) n
 
 -- a calibration, or a restart, with which a run may start and before which none counts
 abbrev pub isStart : Event → Bool
-isStart e = eqb (e .kind) 6 || eqb (e .kind) 9
+isStart e = eqb (e .kind) Kind.calibration || eqb (e .kind) Kind.restart
 
 -- "fault 1 or forcing 2 or 3"
 abbrev pub endsRun : Event → Bool
@@ -78,30 +81,35 @@ valueIn none of nothing = none
 valueIn none of (found after x before) = of x
 
 -- "fault, forcing, hand and tool are as their latest event says .. and off without one"
-unfoldable pub faultIn : List Event → Bool
-faultIn h = valueIn false (λ e. eqb (e .a) 1) (latest isFault (current h))
+unfoldable pub faultIn : List Event → ℕ
+faultIn h = valueIn 0 (λ e. e .a) (latest isFault (current h))
 
 unfoldable pub forcingIn : List Event → ℕ
 forcingIn h = valueIn 0 (λ e. e .a) (latest isForcing (current h))
 
-unfoldable pub handIn : List Event → Bool
-handIn h = valueIn false (λ e. eqb (e .a) 1) (latest isHand (current h))
+unfoldable pub handIn : List Event → ℕ
+handIn h = valueIn 0 (λ e. e .a) (latest isHand (current h))
 
 unfoldable pub handValue : List Event → ℕ
-handValue h = valueIn 0 (λ e. pick (eqb (e .a) 1) (e .b) 0) (latest isHand (current h))
+handValue h = valueIn 0 (λ e. pick (on (e .a)) (e .b) 0) (latest isHand (current h))
 
-unfoldable pub toolIn : List Event → Bool
-toolIn h = valueIn false (λ e. eqb (e .c) 1) (latest isTool (current h))
+unfoldable pub toolIn : List Event → ℕ
+toolIn h = valueIn 0 (λ e. bit (eqb (e .c) Kind.override) 1) (latest isTool (current h))
 
 unfoldable pub toolValue : List Event → ℕ
-toolValue h = valueIn 0 (λ e. pick (eqb (e .c) 1) (toPosition (e .b)) 0) (latest isTool (current h))
+toolValue h = valueIn 0 (λ e. pick (eqb (e .c) Kind.override) (toPosition (e .b)) 0) (latest isTool (current h))
 
 -- "The setpoint is that of the latest kind 2 or command 0": whether there is one, and its position
-unfoldable pub setpointIn : List Event → Bool
-setpointIn h = valueIn false (λ e. true) (latest isSetpoint (current h))
+unfoldable pub setpointIn : List Event → ℕ
+setpointIn h = valueIn 0 (λ e. 1) (latest isSetpoint (current h))
 
 unfoldable pub setpointValue : List Event → ℕ
-setpointValue h = valueIn 0 (λ e. pick (eqb (e .kind) 2) (e .a) (toPosition (e .b))) (latest isSetpoint (current h))
+setpointValue h = valueIn 0 (λ e. pick (eqb (e .kind) Kind.setpoint) (e .a) (toPosition (e .b))) (latest isSetpoint (current h))
+
+-- what the latest commands say
+abbrev pub commandsIn : List Event → Commands
+commandsIn h =
+    commands (faultIn h) (forcingIn h) (handIn h) (handValue h) (toolIn h) (toolValue h) (setpointIn h) (setpointValue h)
 
 -- "a parameter is its latest write, or the fresh value", past every restart
 unfoldable pub parameterIn : List Event → Row → ℕ
@@ -130,7 +138,7 @@ setpointAge h = ticksAfter (latest isSetpoint (current h))
 -- "Bus is active if there is a setpoint and no more than Timeout ticks followed it, the present one counted": at a tick, of the
 -- history with that tick
 unfoldable pub busIn : List Event → Bool
-busIn h = busActive (setpointIn h) (setpointAge h) (timeout (parameters h))
+busIn h = busActive (commandsIn h) (setpointAge h) (timeout (parameters h))
 
 -- whether one of the events ends a run
 unfoldable pub ended : List Event → Bool
@@ -140,7 +148,7 @@ ended (e ∷ h) = endsRun e || ended h
 -- the run that an event starts, `q` being the parameters before it: "Calibration runs toward 0, a restart's run as
 -- StartSynchronization stood then"
 abbrev pub startedBy : Event → List ℕ → ℕ
-startedBy e q = pick (eqb (e .kind) 6) 1 (startRun (startSynchronization q))
+startedBy e q = pick (eqb (e .kind) Kind.calibration) 1 (startRun (startSynchronization q))
 
 -- "A run is active if after its latest start .. no fault 1 or forcing 2 or 3 came and fewer than K ticks passed .., K taken from
 -- the Rate at that start": the run, 0 if none is active
@@ -154,12 +162,11 @@ runIn h = runOf (latest isStart h)
 
 -- the ruling rank at a tick `t` after the history `h`: the bus counts that tick, the run only those "before the present event"
 unfoldable pub rankAt : Event → List Event → ℕ
-rankAt t h = rulingRank (activeByte (faultIn h) (forcingIn h) (runIn h) (handIn h) (toolIn h) (busIn (t ∷ h)))
+rankAt t h = rulingRank (activeByte (commandsIn h) (runIn h) (busIn (t ∷ h)))
 
 -- the target at a tick, the present position being `p`
 unfoldable pub targetFrom : ℕ → Event → List Event → ℕ
-targetFrom p t h =
-    getD (targets p (forcingIn h) (runIn h) (handValue h) (toolValue h) (setpointIn h) (setpointValue h) (parameters h)) (rankAt t h) 0
+targetFrom p t h = getD (targets (commandsIn h) (runIn h) p (parameters h)) (rankAt t h) 0
 
 -- "position starts at 0, a tick changes it by step 2 below with the target and Rate read here, and no other event does"
 unfoldable pub positionIn : List Event → ℕ
@@ -170,9 +177,9 @@ positionIn (e ∷ h) =
 
 -- "the status that a tick leaves ..; for it the present tick counts among those a run has passed": of the history with that tick
 unfoldable pub statusIn : List Event → ℕ
-statusIn h = status (faultIn h) (forcingIn h) (runIn h) (handIn h) (toolIn h) (busIn h)
+statusIn h = status (commandsIn h) (runIn h) (busIn h)
 
 -- "Refusals 2 to 13 are judged by what is read here": of the bytes of a record that comes after the history, 0 if accepted
 unfoldable pub judgement : List Event → List ℕ → ℕ
 judgement h s =
-    refusal s (damperMode (parameters h)) (low (parameters h)) (high (parameters h)) (running (runIn h)) (forbidsRun (faultIn h) (forcingIn h))
+    refusal s (damperMode (parameters h)) (low (parameters h)) (high (parameters h)) (running (runIn h)) (forbidsRun (commandsIn h))

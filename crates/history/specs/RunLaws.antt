@@ -12,6 +12,9 @@ use Rattle.table.specs.Table.{rate}
 use Rattle.event.specs.declared.Event.{Event}
 use Rattle.motion.specs.Motion.{runTicks}
 use Rattle.rules.specs.Rank.{running}
+use Rattle.damper.specs.declared.Run.{Run}
+use Rattle.damper.specs.Record.{run, noRun}
+use Rattle.damper.specs.Tick.{ranDown}
 use Rattle.history.specs.Readings as R
 
 -- the ticks that a run has left, by its latest start
@@ -20,8 +23,15 @@ leftOf R.nothing = 0
 leftOf (R.found after x before) =
     pick (not (R.ended after) && running (R.startedBy x (R.parameters before))) (runTicks (rate (R.parameters before)) - R.ticks after) 0
 
+-- the run with its ticks left
+abbrev pub goingOf : R.Found → Run
+goingOf x = run (R.runOf x) (leftOf x)
+
 unfoldable pub leftIn : List Event → ℕ
 leftIn h = leftOf (R.latest R.isStart h)
+
+abbrev pub goingIn : List Event → Run
+goingIn h = run (R.runIn h) (leftIn h)
 
 pick-same : (b : Bool) (r : ℕ) → r ≡ 0 → pick b r 0 ≡ 0
 pick-same true r e = e
@@ -48,33 +58,20 @@ left-tick true k n = omega arith
 left-tick false k n = refl
 
 -- a tick passes one tick of the run
-pub run-below-tick : (e : Event) (x : R.Found) → R.isTick e ≡ true → R.endsRun e ≡ false
-    → R.runOf (R.below e x) ≡ pick (leb (leftOf x) 1) 0 (R.runOf x)
-unfolding R.ended R.ticks
+pub run-below-tick : (e : Event) (x : R.Found) → R.isTick e ≡ true → R.endsRun e ≡ false → goingOf (R.below e x) ≡ ranDown (goingOf x)
+unfolding R.ended R.ticks ranDown
 run-below-tick e R.nothing t n = refl
-run-below-tick e (R.found a y b) t n = rw (t, n) (run-tick (R.ended a) _ _ (R.ticks a))
-
-pub left-below-tick : (e : Event) (x : R.Found) → R.isTick e ≡ true → R.endsRun e ≡ false → leftOf (R.below e x) ≡ leftOf x - 1
-unfolding R.ended R.ticks
-left-below-tick e R.nothing t n = refl
-left-below-tick e (R.found a y b) t n = rw (t, n) (left-tick (not (R.ended a) && running (R.startedBy y (R.parameters b))) _ (R.ticks a))
+run-below-tick e (R.found a y b) t n =
+    rw (t, n)
+    (λ i. run (run-tick (R.ended a) (R.startedBy y (R.parameters b)) (runTicks (rate (R.parameters b))) (R.ticks a) i)
+    (left-tick (not (R.ended a) && running (R.startedBy y (R.parameters b))) (runTicks (rate (R.parameters b))) (R.ticks a) i))
 
 -- any other event that starts none leaves the run, or ends it
-pub run-below : (e : Event) (x : R.Found) → R.isTick e ≡ false → R.runOf (R.below e x) ≡ pick (R.endsRun e) 0 (R.runOf x)
+pub run-below : (e : Event) (x : R.Found) → R.isTick e ≡ false → goingOf (R.below e x) ≡ pick (R.endsRun e) noRun (goingOf x)
 unfolding R.ended R.ticks
 run-below e x t = go (R.endsRun e) refl x
   where
-    go : (c : Bool) → R.endsRun e ≡ c → (x : R.Found) → R.runOf (R.below e x) ≡ pick c 0 (R.runOf x)
-    go true c R.nothing = refl
-    go false c R.nothing = refl
-    go true c (R.found a y b) = rw (t, c)
-    go false c (R.found a y b) = rw (t, c)
-
-pub left-below : (e : Event) (x : R.Found) → R.isTick e ≡ false → leftOf (R.below e x) ≡ pick (R.endsRun e) 0 (leftOf x)
-unfolding R.ended R.ticks
-left-below e x t = go (R.endsRun e) refl x
-  where
-    go : (c : Bool) → R.endsRun e ≡ c → (x : R.Found) → leftOf (R.below e x) ≡ pick c 0 (leftOf x)
+    go : (c : Bool) → R.endsRun e ≡ c → (x : R.Found) → goingOf (R.below e x) ≡ pick c noRun (goingOf x)
     go true c R.nothing = refl
     go false c R.nothing = refl
     go true c (R.found a y b) = rw (t, c)

@@ -15,7 +15,8 @@ use Rattle.table.specs.Laws.{range-at, bounds}
 use Rattle.damper.specs.declared.Drive.{Drive}
 use Rattle.damper.specs.declared.Outcome.{Outcome}
 use Rattle.damper.specs.Record.{freshDrive}
-use Rattle.damper.specs.Step.{refusalOf}
+use Rattle.damper.specs.Step.{refusalOf, stepOf}
+use Rattle.damper.specs.Carry.{Step, outcomes}
 use Rattle.invariant.specs.Effects as F
 use Rattle.invariant.specs.Kept as K
 use Rattle.history.specs.Readings as R
@@ -28,7 +29,7 @@ use Rattle.history.specs.Facts.{Good, Facts, judged, silent-in, facts-re
 refused-by : (d : Drive) (t : C.Trace) (s : List ℕ) → Good d t → refusalOf d s ≡ R.judgement (C.accepted t) s
 refused-by d t s g = F.refusal-wf d s (g .wf) ∙ judged d t s g
 
-facts : (d : Drive) (t : C.Trace) (s : List ℕ) → Good d t → Facts d t s (C.drive d s)
+facts : (d : Drive) (t : C.Trace) (s : List ℕ) → Good d t → Facts d t s (stepOf d s)
 facts d t s g =
     cases (eqb (R.judgement (C.accepted t) s) 0)
     (λ q. let j = eqb-true _ 0 q in rw (F.step-accepted d s (refused-by d t s g ∙ j)) (facts-accepted d t s g j))
@@ -104,8 +105,8 @@ module _ (d : Drive) (t : C.Trace) (s : List ℕ) (o : Outcome) (i : Inv d t) (f
       let since : min (C.ticksIn b old) 65535 ≤ d .since = i .least b old tl qs in
       let most : minRepTime (C.inForce (momentOf s o) t) ≤ 3600 = wait-bounds .1 in
       let z = f .due-sent k quiet (omega arith) in (
-        d .lastpos,
-        rw (restart, silent-in (o .answer) quiet) (sym (i .good .last) ∙ rw (z .0) (ap (C.sent (d .lastpos)) (sym (z .1)))),
+        d .last .position,
+        rw (restart, silent-in (o .answer) quiet) (sym (i .good .last) ∙ rw (z .0) (ap (C.sent (d .last .position)) (sym (z .1)))),
         z .2,
       )
 
@@ -130,12 +131,12 @@ module _ (d : Drive) (t : C.Trace) (s : List ℕ) (o : Outcome) (i : Inv d t) (f
         formed = f .formed;
       }
 
-claims : (l : List (List ℕ)) (d : Drive) (t : C.Trace) → Inv d t → C.Claim t → C.Claim (C.traceOn t l (C.outcomes d l))
-unfolding C.outcomes C.traceOn
+claims : (l : List (List ℕ)) (d : Drive) (t : C.Trace) → Inv d t → C.Claim t → C.Claim (C.traceOn t l (outcomes stepOf d l))
+unfolding outcomes C.traceOn
 claims [] d t i c = c
 claims (s ∷ ss) d t i c =
     let f = facts d t s (i .good) in
-    let o = C.drive d s in
+    let o = stepOf d s in
     claims ss (o .drive) (momentOf s o ∷ t) (inv′ d t s o i f) (holds d t s o i f, c)
 
 fresh-good : Good freshDrive []
@@ -144,20 +145,7 @@ fresh-good =
     record {
       wf = K.wf-fresh;
       agrees =
-          record {
-            params = refl;
-            fault = refl;
-            forcing = refl;
-            hand = refl;
-            handpos = refl;
-            tool = refl;
-            toolpos = refl;
-            bus = refl;
-            setpoint = refl;
-            age = refl;
-            run = refl;
-            left = refl;
-          };
+          record { params = refl; commands = refl; age = refl; run = refl };
       position = refl;
       trace = refl;
       last = refl;
@@ -174,15 +162,15 @@ fresh-inv = record { good = fresh-good; most = none-most; least = none-least }
     none-least [] old e q = omega arith
     none-least (y ∷ b) old e q = absurd (no-cons y (b ++ old) e)
 
--- The trace has as many records as the list.
-pub trace-whole : (l : List (List ℕ)) → length (C.traceOf l) ≡ length l
-unfolding C.outcomes C.traceOn
-trace-whole l = go l freshDrive [] ∙ zero-add (length l)
+-- The trace has as many records as the list, whatever the step.
+pub trace-whole : (step : Step) (l : List (List ℕ)) → length (C.traceOf step l) ≡ length l
+unfolding outcomes C.traceOn
+trace-whole step l = go l freshDrive [] ∙ zero-add (length l)
   where
-    go : (l : List (List ℕ)) (d : Drive) (t : C.Trace) → length (C.traceOn t l (C.outcomes d l)) ≡ length t + length l
+    go : (l : List (List ℕ)) (d : Drive) (t : C.Trace) → length (C.traceOn t l (outcomes step d l)) ≡ length t + length l
     go [] d t = omega arith
-    go (s ∷ ss) d t = let o = C.drive d s in go ss (o .drive) (momentOf s o ∷ t) ∙ omega arith
+    go (s ∷ ss) d t = let o = step d s in go ss (o .drive) (momentOf s o ∷ t) ∙ omega arith
 
 -- For every list of lists of numbers, however long each may be, the drive's trace meets the claim.
-pub demand-3 : (l : List (List ℕ)) → C.Claim (C.traceOf l)
+pub demand-3 : (l : List (List ℕ)) → C.Claim (C.traceOf stepOf l)
 demand-3 l = claims l freshDrive [] fresh-inv tt

@@ -2,22 +2,25 @@
 use mathlib.Core.Path.{_≡_, refl, ap}
 use mathlib.Core.Bool.{Bool, true, false, not, _&&_, _||_}
 use mathlib.Core.List.{List}
-use Prim.Native.Nat.{ℕ, _-_}
-use lib.Dec.{leb, eqb}
+use Prim.Native.Nat.{ℕ}
+use lib.Dec.{eqb}
 use lib.ListN.{set}
 use borrow.Author.Tests.{ne-eqb}
-use Rattle.numbers.specs.Numbers.{pick, next}
+use Rattle.numbers.specs.Numbers.{pick, on, bit, next}
 use Rattle.numbers.specs.Laws.{cases}
 use Rattle.table.specs.Table.{placeOf, startSynchronization, rate}
 use Rattle.event.specs.declared.Event.{Event}
 use Rattle.event.specs.Event.{event, eventIn, badKind, valueOf}
 use Rattle.event.specs.Laws.{by-kind}
 use Rattle.motion.specs.Motion.{toPosition, toward, runTicks}
+use Rattle.rules.specs.declared.Commands.{Commands}
+use Rattle.rules.specs.Commands.{commands, interlocked}
 use Rattle.rules.specs.Rank.{running, startRun, forbidsRun}
+use Rattle.damper.specs.declared.Run.{Run}
 use Rattle.damper.specs.declared.Drive.{Drive}
 use Rattle.damper.specs.declared.Outcome.{Outcome}
 use Rattle.answer.specs.declared.Answer.the-variants.{No, Report}
-use Rattle.damper.specs.Record.{withCounts, withPosition, withRun, withSetpoint, withTool}
+use Rattle.damper.specs.Record.{run, noRun, last, withCounts, withPosition, withRun, withSetpoint, withTool}
 use Rattle.damper.specs.WellFormed.{wellFormed}
 use Rattle.damper.specs.Tick.{aged, ruling, targetAt, moved, ranDown, advance, statusOf, due}
 use Rattle.answer.specs.Answer.{isReport, numberOf}
@@ -28,7 +31,7 @@ abbrev written : Drive → ℕ → Outcome
 written d b = done (withSetpoint d (toPosition b))
 
 abbrev overridden : Drive → ℕ → ℕ → Outcome
-overridden d b c = done (withTool d (eqb c 1) (pick (eqb c 1) (toPosition b) 0))
+overridden d b c = done (withTool d (bit (eqb c 1) 1) (pick (eqb c 1) (toPosition b) 0))
 
 -- a value for each kind but 1 and 3, which branch
 abbrev Others : Type 0 → Type 0
@@ -82,137 +85,80 @@ plain f d g h =
     after f d g (λ q i a b c. h i a b c .0) (λ q i a b c. h i a b c .1) (λ c q i a b. h i a b c .2) (λ c q i a b. h i a b c .3)
     (λ i a b c. h i a b c .4)
 
--- the run after an event of kind `k` and data byte `a`, and its ticks left: by parameters, fault flag and forcing, and by the run `r`
--- and its ticks left `n` before the event
-abbrev pub runBy : ℕ → ℕ → List ℕ → Bool → ℕ → ℕ → ℕ → ℕ
-runBy k a q f g r n =
-    pick (eqb k 9) (startRun (startSynchronization q))
-    (pick (eqb k 6) 1
-    (pick (eqb k 1) (pick (leb n 1) 0 r)
-    (pick (eqb k 4) (pick (forbidsRun f a) 0 r)
-    (pick (eqb k 7) (pick (forbidsRun (eqb a 1) g) 0 r) r))))
+-- the commands after an event
+abbrev pub commandsBy : Event → Commands → Commands
+commandsBy e c =
+    commands
+    (pick (eqb (e .kind) 9) 0 (pick (eqb (e .kind) 7) (e .a) (c .fault)))
+    (pick (eqb (e .kind) 9) 0 (pick (eqb (e .kind) 4) (e .a) (c .forcing)))
+    (pick (eqb (e .kind) 9) 0 (pick (eqb (e .kind) 5) (e .a) (c .hand)))
+    (pick (eqb (e .kind) 9) 0 (pick (eqb (e .kind) 5) (pick (on (e .a)) (e .b) 0) (c .handpos)))
+    (pick (eqb (e .kind) 9) 0 (pick (eqb (e .kind) 3 && not (eqb (e .c) 0)) (bit (eqb (e .c) 1) 1) (c .tool)))
+    (pick (eqb (e .kind) 9) 0 (pick (eqb (e .kind) 3 && not (eqb (e .c) 0)) (pick (eqb (e .c) 1) (toPosition (e .b)) 0) (c .toolpos)))
+    (pick (eqb (e .kind) 9) 0 (pick (eqb (e .kind) 2 || (eqb (e .kind) 3 && eqb (e .c) 0)) 1 (c .stored)))
+    (pick (eqb (e .kind) 9) 0
+    (pick (eqb (e .kind) 2 || (eqb (e .kind) 3 && eqb (e .c) 0)) (pick (eqb (e .kind) 2) (e .a) (toPosition (e .b))) (c .setpoint)))
 
-abbrev pub leftBy : ℕ → ℕ → List ℕ → Bool → ℕ → ℕ → ℕ
-leftBy k a q f g n =
-    pick (eqb k 9) (pick (running (startRun (startSynchronization q))) (runTicks (rate q)) 0)
-    (pick (eqb k 6) (runTicks (rate q))
-    (pick (eqb k 1) (n - 1)
-    (pick (eqb k 4) (pick (forbidsRun f a) 0 n)
-    (pick (eqb k 7) (pick (forbidsRun (eqb a 1) g) 0 n) n))))
+-- the run after an event of kind `k` and data byte `a`, by parameters, commands and run before it
+abbrev pub runBy : ℕ → ℕ → List ℕ → Commands → Run → Run
+runBy k a q c r =
+    pick (eqb k 9) (let s = startRun (startSynchronization q) in run s (pick (running s) (runTicks (rate q)) 0))
+    (pick (eqb k 6) (run 1 (runTicks (rate q)))
+    (pick (eqb k 1) (ranDown r)
+    (pick (eqb k 4) (pick (forbidsRun (interlocked c (c .fault) a)) noRun r)
+    (pick (eqb k 7) (pick (forbidsRun (interlocked c a (c .forcing))) noRun r) r))))
 
 module _ (d : Drive) where
-  -- fault flag and forcing
-  pub fault-after : (e : Event) → badKind (e .kind) ≡ false
-      → applied d e .drive .fault ≡ pick (eqb (e .kind) 9) false (pick (eqb (e .kind) 7) (eqb (e .a) 1) (d .fault))
-  unfolding obeyed applied tickWith advance aged moved ranDown calibrated restarted
-  fault-after = plain (λ o. o .drive .fault) d _ refl
+  pub commands-after : (e : Event) → badKind (e .kind) ≡ false → applied d e .drive .commands ≡ commandsBy e (d .commands)
+  unfolding obeyed applied tickWith advance aged moved calibrated restarted
+  commands-after = after (λ o. o .drive .commands) d _ (λ q. refl) (λ q. refl) (λ c q. rw q) (λ c q. rw q) refl
 
-  pub forcing-after : (e : Event) → badKind (e .kind) ≡ false
-      → applied d e .drive .forcing ≡ pick (eqb (e .kind) 9) 0 (pick (eqb (e .kind) 4) (e .a) (d .forcing))
-  unfolding obeyed applied tickWith advance aged moved ranDown calibrated restarted
-  forcing-after = plain (λ o. o .drive .forcing) d _ refl
-
-  -- hand and tool
-  pub hand-after : (e : Event) → badKind (e .kind) ≡ false
-      → applied d e .drive .hand ≡ pick (eqb (e .kind) 9) false (pick (eqb (e .kind) 5) (eqb (e .a) 1) (d .hand))
-  unfolding obeyed applied tickWith advance aged moved ranDown calibrated restarted
-  hand-after = plain (λ o. o .drive .hand) d _ refl
-
-  pub handpos-after : (e : Event) → badKind (e .kind) ≡ false
-      → applied d e .drive .handpos ≡ pick (eqb (e .kind) 9) 0
-      (pick (eqb (e .kind) 5) (pick (eqb (e .a) 1) (e .b) 0) (d .handpos))
-  unfolding obeyed applied tickWith advance aged moved ranDown calibrated restarted
-  handpos-after = plain (λ o. o .drive .handpos) d _ refl
-
-  pub tool-after : (e : Event) → badKind (e .kind) ≡ false
-      → applied d e .drive .tool ≡ pick (eqb (e .kind) 9) false
-      (pick (eqb (e .kind) 3 && not (eqb (e .c) 0)) (eqb (e .c) 1) (d .tool))
-  unfolding obeyed applied tickWith advance aged moved ranDown calibrated restarted
-  tool-after = after (λ o. o .drive .tool) d _ (λ q. refl) (λ q. refl) (λ c q. rw q) (λ c q. rw q) refl
-
-  pub toolpos-after : (e : Event) → badKind (e .kind) ≡ false
-      → applied d e .drive .toolpos ≡ pick (eqb (e .kind) 9) 0
-      (pick (eqb (e .kind) 3 && not (eqb (e .c) 0)) (pick (eqb (e .c) 1) (toPosition (e .b)) 0) (d .toolpos))
-  unfolding obeyed applied tickWith advance aged moved ranDown calibrated restarted
-  toolpos-after = after (λ o. o .drive .toolpos) d _ (λ q. refl) (λ q. refl) (λ c q. rw q) (λ c q. rw q) refl
-
-  -- the bus setpoint and its age
-  pub bus-after : (e : Event) → badKind (e .kind) ≡ false
-      → applied d e .drive .bus ≡ pick (eqb (e .kind) 9) false
-      (pick (eqb (e .kind) 2 || (eqb (e .kind) 3 && eqb (e .c) 0)) true (d .bus))
-  unfolding obeyed applied tickWith advance aged moved ranDown calibrated restarted
-  bus-after = after (λ o. o .drive .bus) d _ (λ q. refl) (λ q. refl) (λ c q. rw q) (λ c q. rw q) refl
-
-  pub setpoint-after : (e : Event) → badKind (e .kind) ≡ false
-      → applied d e .drive .setpoint ≡ pick (eqb (e .kind) 9) 0
-      (pick (eqb (e .kind) 2 || (eqb (e .kind) 3 && eqb (e .c) 0))
-      (pick (eqb (e .kind) 2) (e .a) (toPosition (e .b))) (d .setpoint))
-  unfolding obeyed applied tickWith advance aged moved ranDown calibrated restarted
-  setpoint-after = after (λ o. o .drive .setpoint) d _ (λ q. refl) (λ q. refl) (λ c q. rw q) (λ c q. rw q) refl
-
+  -- the age of the bus setpoint
   pub age-after : (e : Event) → badKind (e .kind) ≡ false
       → applied d e .drive .age ≡ pick (eqb (e .kind) 9) 0
       (pick (eqb (e .kind) 2 || (eqb (e .kind) 3 && eqb (e .c) 0)) 0
-      (pick (eqb (e .kind) 1) (pick (d .bus) (next (d .age)) (d .age)) (d .age)))
-  unfolding obeyed applied tickWith advance aged moved ranDown calibrated restarted
+      (pick (eqb (e .kind) 1) (pick (on (d .commands .stored)) (next (d .age)) (d .age)) (d .age)))
+  unfolding obeyed applied tickWith advance aged moved calibrated restarted
   age-after = after (λ o. o .drive .age) d _ (λ q. refl) (λ q. refl) (λ c q. rw q) (λ c q. rw q) refl
 
   -- parameters and position
   pub params-after : (e : Event) → badKind (e .kind) ≡ false
       → applied d e .drive .params ≡ pick (eqb (e .kind) 8) (set (d .params) (placeOf (e .a)) (valueOf e)) (d .params)
-  unfolding obeyed applied tickWith advance aged moved ranDown calibrated restarted
+  unfolding obeyed applied tickWith advance aged moved calibrated restarted
   params-after = plain (λ o. o .drive .params) d _ refl
 
   pub position-after : (e : Event) → badKind (e .kind) ≡ false
       → applied d e .drive .position ≡ pick (eqb (e .kind) 1) (advance d .drive .position) (d .position)
-  unfolding obeyed applied tickWith advance aged moved ranDown calibrated restarted
+  unfolding obeyed applied tickWith advance aged moved calibrated restarted
   position-after = plain (λ o. o .drive .position) d _ refl
 
-  -- the run and its ticks left
   pub run-after : (e : Event) → badKind (e .kind) ≡ false
-      → applied d e .drive .run ≡ runBy (e .kind) (e .a) (d .params) (d .fault) (d .forcing) (d .run) (d .left)
-  unfolding obeyed applied tickWith advance aged moved ranDown calibrated restarted
+      → applied d e .drive .run ≡ runBy (e .kind) (e .a) (d .params) (d .commands) (d .run)
+  unfolding obeyed applied tickWith advance aged moved calibrated restarted
   run-after = plain (λ o. o .drive .run) d _ refl
-
-  pub left-after : (e : Event) → badKind (e .kind) ≡ false
-      → applied d e .drive .left ≡ leftBy (e .kind) (e .a) (d .params) (d .fault) (d .forcing) (d .left)
-  unfolding obeyed applied tickWith advance aged moved ranDown calibrated restarted
-  left-after = plain (λ o. o .drive .left) d _ refl
 
   -- the ticks since the last report, and what it said
   pub since-after : (e : Event) → badKind (e .kind) ≡ false
       → applied d e .drive .since ≡ pick (eqb (e .kind) 9) 0
       (pick (eqb (e .kind) 1) (pick (due (advance d .drive)) 0 (next (d .since))) (d .since))
-  unfolding obeyed applied tickWith advance aged moved ranDown calibrated restarted
+  unfolding obeyed applied tickWith advance aged moved calibrated restarted
   since-after = after (λ o. o .drive .since) d _ (λ q. rw q) (λ q. rw q) (λ c q. refl) (λ c q. refl) refl
 
-  pub reported-after : (e : Event) → badKind (e .kind) ≡ false
-      → applied d e .drive .reported ≡ pick (eqb (e .kind) 9) false
-      (pick (eqb (e .kind) 1 && due (advance d .drive)) true (d .reported))
-  unfolding obeyed applied tickWith advance aged moved ranDown calibrated restarted
-  reported-after = after (λ o. o .drive .reported) d _ (λ q. rw q) (λ q. rw q) (λ c q. refl) (λ c q. refl) refl
-
-  pub lastpos-after : (e : Event) → badKind (e .kind) ≡ false
-      → applied d e .drive .lastpos ≡ pick (eqb (e .kind) 9) 0
-      (pick (eqb (e .kind) 1 && due (advance d .drive)) (advance d .drive .position) (d .lastpos))
-  unfolding obeyed applied tickWith advance aged moved ranDown calibrated restarted
-  lastpos-after = after (λ o. o .drive .lastpos) d _ (λ q. rw q) (λ q. rw q) (λ c q. refl) (λ c q. refl) refl
-
-  pub laststatus-after : (e : Event) → badKind (e .kind) ≡ false
-      → applied d e .drive .laststatus ≡ pick (eqb (e .kind) 9) 0
-      (pick (eqb (e .kind) 1 && due (advance d .drive)) (statusOf (advance d .drive)) (d .laststatus))
-  unfolding obeyed applied tickWith advance aged moved ranDown calibrated restarted
-  laststatus-after = after (λ o. o .drive .laststatus) d _ (λ q. rw q) (λ q. rw q) (λ c q. refl) (λ c q. refl) refl
+  pub last-after : (e : Event) → badKind (e .kind) ≡ false
+      → applied d e .drive .last ≡ pick (eqb (e .kind) 9) (last 0 0 0)
+      (pick (eqb (e .kind) 1 && due (advance d .drive)) (last 1 (advance d .drive .position) (statusOf (advance d .drive))) (d .last))
+  unfolding obeyed applied tickWith advance aged moved calibrated restarted
+  last-after = after (λ o. o .drive .last) d _ (λ q. rw q) (λ q. rw q) (λ c q. refl) (λ c q. refl) refl
 
   -- the answer: it is a report just where a tick is due, and no refusal
   pub report-after : (e : Event) → badKind (e .kind) ≡ false
       → isReport (applied d e .answer) ≡ eqb (e .kind) 1 && due (advance d .drive)
-  unfolding obeyed applied tickWith advance aged moved ranDown calibrated restarted
+  unfolding obeyed applied tickWith advance aged moved calibrated restarted
   report-after = after (λ o. isReport (o .answer)) d _ (λ q. rw q) (λ q. rw q) (λ c q. refl) (λ c q. refl) refl
 
   pub number-after : (e : Event) → badKind (e .kind) ≡ false
       → numberOf (applied d e .answer) ≡ 0
-  unfolding obeyed applied tickWith advance aged moved ranDown calibrated restarted
+  unfolding obeyed applied tickWith advance aged moved calibrated restarted
   number-after = plain (λ o. numberOf (o .answer)) d _ refl
 
   pub answer-report : (e : Event) → e .kind ≡ 1 → due (advance d .drive) ≡ true
@@ -222,24 +168,17 @@ module _ (d : Drive) where
 
   -- steps 1 to 3 of a tick: the record whole, then field by field
   pub advance-drive : advance d .drive ≡ withRun
-      (withPosition (withCounts d (pick (d .bus) (next (d .age)) (d .age)) (next (d .since)))
+      (withPosition (withCounts d (pick (on (d .commands .stored)) (next (d .age)) (d .age)) (next (d .since)))
       (toward (d .position) (targetAt (aged d) (ruling (aged d))) (rate (d .params))))
-      (pick (leb (d .left) 1) 0 (d .run))
-      (d .left - 1)
-  unfolding advance aged moved ranDown
+      (ranDown (d .run))
+  unfolding advance aged moved
   advance-drive = refl
 
   pub advance-params : advance d .drive .params ≡ d .params
   advance-params = ap (λ x. x .params) advance-drive
 
-  pub advance-reported : advance d .drive .reported ≡ d .reported
-  advance-reported = ap (λ x. x .reported) advance-drive
-
-  pub advance-lastpos : advance d .drive .lastpos ≡ d .lastpos
-  advance-lastpos = ap (λ x. x .lastpos) advance-drive
-
-  pub advance-laststatus : advance d .drive .laststatus ≡ d .laststatus
-  advance-laststatus = ap (λ x. x .laststatus) advance-drive
+  pub advance-last : advance d .drive .last ≡ d .last
+  advance-last = ap (λ x. x .last) advance-drive
 
   pub advance-since : advance d .drive .since ≡ next (d .since)
   advance-since = ap (λ x. x .since) advance-drive

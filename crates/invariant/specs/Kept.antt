@@ -2,31 +2,35 @@
 use mathlib.Core.Path.{_≡_, refl, sym, ap, _∙_}
 use mathlib.Core.Bool.{Bool, true, false, not, _&&_, _||_, and-eq-true-iff, or-true}
 use mathlib.Core.List.{List, [], _∷_}
-use Prim.Native.Nat.{ℕ, suc, _+_, _-_, _≤_, _<_}
+use Prim.Native.Nat.{ℕ, zero, suc, _+_, _-_, _≤_, _<_}
 use native.Mathlib.Nat.{sub-self, le-refl}
 use native.Mathlib.Omega.{arith}
 use lib.Dec.{leb, ltb, eqb}
 use lib.ListN.{getD, set, length}
 use lib.Seq.{getD-set-same, getD-set-other}
 use borrow.Author.Tests.{leb-true, leb-false, eqb-true, eqb-false, ltb-true, ltb-false, le-leb, eq-eqb}
-use Rattle.numbers.specs.Numbers.{pick}
+use Rattle.numbers.specs.Numbers.{pick, on, isFlag, bit}
 use Rattle.numbers.specs.Laws.{and-left, and-right, and-intro, or-left, not-false, pick-elim}
 use Rattle.table.specs.declared.Row.{Row}
 use Rattle.table.specs.Table.{rateNumber, lowNumber, highNumber, rows, rowAt, allIn, placeFrom, placeOf, known, takes, damperMode, startSynchronization, rate, low, high}
 use Rattle.table.specs.Laws.{all-length, all-set}
 use Rattle.event.specs.declared.Event.{Event}
-use Rattle.event.specs.Event.{event, eventIn, badA, dataRefusal}
+use Rattle.event.specs.Event.{event, eventIn, formOf, badA, dataRefusal}
 use Rattle.event.specs.Laws.{by-kind, admitted, record-passed}
-use Rattle.motion.specs.Motion.{runTicks}
+use Rattle.motion.specs.Motion.{toPosition, runTicks}
 use Rattle.motion.specs.Laws.{run-ticks-pos}
+use Rattle.rules.specs.declared.Commands.{Commands}
+use Rattle.rules.specs.Commands.{interlocked, handed, overridden, written, offZero, flagged, commandsFit}
+use Rattle.rules.specs.CommandsLaws as Command
 use Rattle.rules.specs.Rank.{running, startRun, forbidsRun}
 use Rattle.rules.specs.Refusal.{stateRefusal}
 use Rattle.rules.specs.RefusalLaws.{Passed, state-passed, refusal-passed}
+use Rattle.damper.specs.declared.Run.{Run}
 use Rattle.damper.specs.declared.Drive.{Drive}
 use Rattle.damper.specs.declared.Advanced.{Advanced}
 use Rattle.damper.specs.declared.Outcome.{Outcome}
-use Rattle.damper.specs.Record.{freshDrive, withCounts, withPosition, withRun, withReport, withParam, withSetpoint, withTool, withHand, withInterlocks, cleared}
-use Rattle.damper.specs.WellFormed.{offZero, runFits, absentZero, wellFormed}
+use Rattle.damper.specs.Record.{run, noRun, freshDrive, withCommands, withCounts, withPosition, withRun, withReport, withParam, withSetpoint, withTool, withHand, withInterlocks, cleared}
+use Rattle.damper.specs.WellFormed.{runFits, lastFits, wellFormed}
 use Rattle.damper.specs.Laws.{wf-ranges}
 use Rattle.damper.specs.Tick.{aged, moved, ranDown, advance, statusOf}
 use Rattle.damper.specs.Step.{tickWith, ticked, commanded, calibrated, restarted, obeyed, applied, refusalOf, stepOf}
@@ -76,53 +80,31 @@ order-kept true false v l h o c = le-leb v h (ltb-false h v (or-left _ _ c))
 order-kept false true v l h o c = le-leb l v (ltb-false v l c)
 order-kept false false v l h o c = o
 
--- Well-formedness in its parts, one for each clause of the paper's sentence.
+-- Well-formedness in its parts.
 pub record Parts (d : Drive) : Type 0 where
   pub params : allIn rows (d .params) ≡ true
   pub order : leb (low (d .params)) (high (d .params)) ≡ true
-  pub forcing : leb (d .forcing) 3 ≡ true
-  pub run : runFits (d .run) (d .left) (runTicks (rate (d .params))) (forbidsRun (d .fault) (d .forcing)) ≡ true
-  pub hand : offZero (d .hand) (d .handpos) ≡ true
-  pub tool : offZero (d .tool) (d .toolpos) ≡ true
-  pub setpoint : offZero (d .bus) (d .setpoint) ≡ true
-  pub age : offZero (d .bus) (d .age) ≡ true
-  pub lastpos : offZero (d .reported) (d .lastpos) ≡ true
-  pub laststatus : offZero (d .reported) (d .laststatus) ≡ true
+  pub commands : commandsFit (d .commands) (d .age) ≡ true
+  pub last : lastFits (d .last) ≡ true
+  pub run : runFits (d .run) (runTicks (rate (d .params))) (forbidsRun (d .commands)) ≡ true
 
 -- a well-formed record has each part
 pub parts : (d : Drive) → wellFormed d ≡ true → Parts d
-unfolding wellFormed absentZero
+unfolding wellFormed
 parts d h =
     let s = simp and-eq-true-iff at h in
-    let b = s .1 .0 in
-    let a = s .1 .1 in
-    record {
-      params = s .0;
-      order = b .0 .0;
-      forcing = b .0 .1;
-      run = b .1;
-      hand = a .0 .0 .0 .0 .0;
-      tool = a .0 .0 .0 .0 .1;
-      setpoint = a .0 .0 .0 .1;
-      age = a .0 .0 .1;
-      lastpos = a .0 .1;
-      laststatus = a .1;
-    }
+    record { params = s .0; order = s .1 .0; commands = s .1 .1 .0; last = s .1 .1 .1 .0; run = s .1 .1 .1 .1 }
 
--- the parts, in the same order, make it whole
-pub whole : (d : Drive) → allIn rows (d .params) ≡ true → leb (low (d .params)) (high (d .params)) ≡ true → leb (d .forcing) 3 ≡ true
-    → runFits (d .run) (d .left) (runTicks (rate (d .params))) (forbidsRun (d .fault) (d .forcing)) ≡ true
-    → offZero (d .hand) (d .handpos) ≡ true → offZero (d .tool) (d .toolpos) ≡ true → offZero (d .bus) (d .setpoint) ≡ true
-    → offZero (d .bus) (d .age) ≡ true → offZero (d .reported) (d .lastpos) ≡ true → offZero (d .reported) (d .laststatus) ≡ true
-    → wellFormed d ≡ true
-unfolding wellFormed absentZero
-whole d p o g r h t s a l m =
-    and-intro p (and-intro (and-intro (and-intro o g) r) (and-intro (and-intro (and-intro (and-intro (and-intro h t) s) a) l) m))
+-- the parts make it whole
+pub whole : (d : Drive) → Parts d → wellFormed d ≡ true
+unfolding wellFormed
+whole d p =
+    and-intro (p .params) (and-intro (p .order) (and-intro (p .commands) (and-intro (p .last) (p .run))))
 
 -- Laws of a run that fits.
 
 -- a run of K ticks fits where none is forbidden, and so does no run with no ticks
-run-start : (r k : ℕ) (f : Bool) → leb r 3 ≡ true → 1 ≤ k → f ≡ false → runFits r (pick (running r) k 0) k f ≡ true
+run-start : (r k : ℕ) (f : Bool) → leb r 3 ≡ true → 1 ≤ k → f ≡ false → runFits (run r (pick (running r) k 0)) k f ≡ true
 unfolding runFits
 run-start r k f h p e = go (running r)
   where
@@ -131,93 +113,110 @@ run-start r k f h p e = go (running r)
     go false = rw h
 
 -- a run that fits also fits with fewer ticks, if not none, and where nothing new forbids it
-run-within : (r n m k : ℕ) (f g : Bool) → runFits r n k f ≡ true → m ≤ n → (1 ≤ n → 1 ≤ m) → (not f ≡ true → not g ≡ true) → runFits r m k g ≡ true
+run-within : (r : Run) (m k : ℕ) (f g : Bool) → runFits r k f ≡ true → m ≤ r .left → (1 ≤ r .left → 1 ≤ m) → (not f ≡ true → not g ≡ true)
+    → runFits (run (r .kind) m) k g ≡ true
 unfolding runFits
-run-within r n m k f g h a b q = and-intro (and-left (leb r 3) _ h) (go (running r) (and-right (leb r 3) _ h))
+run-within r m k f g h a b q = and-intro (and-left (leb (r .kind) 3) _ h) (go (running (r .kind)) (and-right (leb (r .kind) 3) _ h))
   where
-    go : (x : Bool) → pick x ((leb 1 n && leb n k) && not f) (eqb n 0) ≡ true → pick x ((leb 1 m && leb m k) && not g) (eqb m 0) ≡ true
+    go : (x : Bool) → pick x ((leb 1 (r .left) && leb (r .left) k) && not f) (eqb (r .left) 0) ≡ true
+        → pick x ((leb 1 m && leb m k) && not g) (eqb m 0) ≡ true
     go true t =
         let s = simp and-eq-true-iff at t in
-        let lo = leb-true 1 n (s .0 .0) in
-        let hi = leb-true n k (s .0 .1) in
+        let lo = leb-true 1 (r .left) (s .0 .0) in
+        let hi = leb-true (r .left) k (s .0 .1) in
         and-intro (and-intro (le-leb 1 m (b lo)) (le-leb m k (omega arith))) (q (s .1))
-    go false t = let z = eqb-true n 0 t in eq-eqb m 0 (omega arith)
+    go false t = let z = eqb-true (r .left) 0 t in eq-eqb m 0 (omega arith)
 
 -- it still fits after a tick
-run-down : (r n k : ℕ) (f : Bool) → runFits r n k f ≡ true → runFits (pick (leb n 1) 0 r) (n - 1) k f ≡ true
-unfolding runFits
-run-down r n k f h =
-    pick-elim (λ (x : ℕ). runFits x (n - 1) k f ≡ true) (leb n 1)
-    (λ e. let z : n - 1 ≡ 0 = omega (arith, leb-true n 1 e) in rw z)
-    (λ e. let q = leb-false n 1 e in run-within r n (n - 1) k f f h (omega arith) (λ y. omega arith) (λ y. y))
+run-down : (r : Run) (k : ℕ) (f : Bool) → runFits r k f ≡ true → runFits (ranDown r) k f ≡ true
+unfolding runFits ranDown
+run-down r k f h =
+    pick-elim (λ (x : ℕ). runFits (run x (r .left - 1)) k f ≡ true) (leb (r .left) 1)
+    (λ e. let z : r .left - 1 ≡ 0 = omega (arith, leb-true (r .left) 1 e) in rw z)
+    (λ e. let q = leb-false (r .left) 1 e in run-within r (r .left - 1) k f f h (omega arith) (λ y. omega arith) (λ y. y))
 
 -- after a change of what forbids it, it still fits where allowed, and no run stands in its place where forbidden
-run-interlock : (r n k : ℕ) (f g : Bool) → runFits r n k f ≡ true → runFits (pick g 0 r) (pick g 0 n) k g ≡ true
+run-interlock : (r : Run) (k : ℕ) (f g : Bool) → runFits r k f ≡ true → runFits (pick g noRun r) k g ≡ true
 unfolding runFits
-run-interlock r n k f true h = refl
-run-interlock r n k f false h = run-within r n n k f false h (le-refl n) (λ y. y) (λ y. refl)
+run-interlock r k f true h = refl
+run-interlock r k f false h = run-within r (r .left) k f false h (le-refl (r .left)) (λ y. y) (λ y. refl)
 
 -- it still fits after a write of a Rate `v` that is not during a run: `x` a write of Rate, `u` the Rate before
-run-rate : (x : Bool) (r n v u : ℕ) (f : Bool) → x && running r ≡ false → runFits r n (runTicks u) f ≡ true → runFits r n (runTicks (pick x v u)) f ≡ true
+run-rate : (x : Bool) (r : Run) (v u : ℕ) (f : Bool) → x && running (r .kind) ≡ false → runFits r (runTicks u) f ≡ true → runFits r (runTicks (pick x v u)) f ≡ true
 unfolding runFits
-run-rate true r n v u f o h = simp o (simp o at h)
-run-rate false r n v u f o h = h
+run-rate true r v u f o h = simp o (simp o at h)
+run-rate false r v u f o h = h
 
 -- Each update keeps a record well formed where what it changes fits.
 
 -- a value beside a flag, chosen by that flag, is 0 where the flag is off
-off-pick : (b : Bool) (x y : ℕ) → offZero b y ≡ true → offZero b (pick b x y) ≡ true
-off-pick true x y h = refl
-off-pick false x y h = h
+off-pick : (f x y : ℕ) → offZero f y ≡ true → offZero f (pick (on f) x y) ≡ true
+off-pick f x y h = pick-elim (λ (v : ℕ). offZero f v ≡ true) (on f) (λ e. rw e) (λ e. h)
 
 module _ (d : Drive) (w : wellFormed d ≡ true) where
-  -- the parts of the record before the update
+  -- the parts of the record before the update, and of its commands
   its : Parts d
   its = parts d w
 
+  said : Command.Parts (d .commands) (d .age)
+  said = Command.parts (d .commands) (d .age) (its .commands)
+
+  -- commands, an age and a run that fit
+  wf-commands : (c : Commands) (a : ℕ) (r : Run) → Command.Parts c a → runFits r (runTicks (rate (d .params))) (forbidsRun c) ≡ true
+      → wellFormed (withCommands d c a r) ≡ true
+  wf-commands c a r p q = whole _ record { params = its .params; order = its .order; commands = Command.whole c a p; last = its .last; run = q }
+
   -- an age only where there is a setpoint
-  pub wf-counts : (a s : ℕ) → offZero (d .bus) a ≡ true → wellFormed (withCounts d a s) ≡ true
+  pub wf-counts : (a s : ℕ) → offZero (d .commands .stored) a ≡ true → wellFormed (withCounts d a s) ≡ true
   wf-counts a s h =
-      whole (withCounts d a s) (its .params) (its .order) (its .forcing) (its .run) (its .hand) (its .tool) (its .setpoint) h (its .lastpos) (its .laststatus)
+      let c = Command.whole _ a record { fault = said .fault; forcing = said .forcing; hand = said .hand; tool = said .tool; stored = said .stored; age = h } in
+      whole _ record { params = its .params; order = its .order; commands = c; last = its .last; run = its .run }
 
   -- any position
   pub wf-position : (p : ℕ) → wellFormed (withPosition d p) ≡ true
-  unfolding wellFormed absentZero
+  unfolding wellFormed
   wf-position p = w
 
   -- a run that fits
-  pub wf-run : (r n : ℕ) → runFits r n (runTicks (rate (d .params))) (forbidsRun (d .fault) (d .forcing)) ≡ true → wellFormed (withRun d r n) ≡ true
-  wf-run r n h =
-      whole (withRun d r n) (its .params) (its .order) (its .forcing) h (its .hand) (its .tool) (its .setpoint) (its .age) (its .lastpos) (its .laststatus)
+  pub wf-run : (r : Run) → runFits r (runTicks (rate (d .params))) (forbidsRun (d .commands)) ≡ true → wellFormed (withRun d r) ≡ true
+  wf-run r h = wf-commands (d .commands) (d .age) r said h
 
   -- any report
   pub wf-report : (s : ℕ) → wellFormed (withReport d s) ≡ true
-  wf-report s =
-      whole (withReport d s) (its .params) (its .order) (its .forcing) (its .run) (its .hand) (its .tool) (its .setpoint) (its .age) refl refl
+  unfolding lastFits
+  wf-report s = whole _ record { params = its .params; order = its .order; commands = its .commands; last = refl; run = its .run }
 
   -- any setpoint
   pub wf-setpoint : (v : ℕ) → wellFormed (withSetpoint d v) ≡ true
   wf-setpoint v =
-      whole (withSetpoint d v) (its .params) (its .order) (its .forcing) (its .run) (its .hand) (its .tool) refl refl (its .lastpos) (its .laststatus)
+      wf-commands (written (d .commands) v) 0 (d .run)
+      record { fault = said .fault; forcing = said .forcing; hand = said .hand; tool = said .tool; stored = refl; age = refl }
+      (its .run)
 
-  -- an override whose value is 0 where its flag is off, and the same of the hand
-  pub wf-tool : (on : Bool) (v : ℕ) → offZero on v ≡ true → wellFormed (withTool d on v) ≡ true
-  wf-tool on v h =
-      whole (withTool d on v) (its .params) (its .order) (its .forcing) (its .run) (its .hand) h (its .setpoint) (its .age) (its .lastpos) (its .laststatus)
+  -- an override whose flag is 0 or 1 and whose value is 0 where it is off, and the same of the hand
+  pub wf-tool : (t y : ℕ) → flagged t y ≡ true → wellFormed (withTool d t y) ≡ true
+  wf-tool t y p =
+      wf-commands (overridden (d .commands) t y) (d .age) (d .run)
+      record { fault = said .fault; forcing = said .forcing; hand = said .hand; tool = p; stored = said .stored; age = said .age }
+      (its .run)
 
-  pub wf-hand : (on : Bool) (v : ℕ) → offZero on v ≡ true → wellFormed (withHand d on v) ≡ true
-  wf-hand on v h =
-      whole (withHand d on v) (its .params) (its .order) (its .forcing) (its .run) h (its .tool) (its .setpoint) (its .age) (its .lastpos) (its .laststatus)
+  pub wf-hand : (h x : ℕ) → flagged h x ≡ true → wellFormed (withHand d h x) ≡ true
+  wf-hand h x p =
+      wf-commands (handed (d .commands) h x) (d .age) (d .run)
+      record { fault = said .fault; forcing = said .forcing; hand = p; tool = said .tool; stored = said .stored; age = said .age }
+      (its .run)
 
   -- any fault flag, and forcing of at most 3
-  pub wf-interlocks : (f : Bool) (g : ℕ) → leb g 3 ≡ true → wellFormed (withInterlocks d f g) ≡ true
-  wf-interlocks f g h =
-      whole (withInterlocks d f g) (its .params) (its .order) h (run-interlock _ _ _ _ (forbidsRun f g) (its .run)) (its .hand) (its .tool) (its .setpoint) (its .age) (its .lastpos) (its .laststatus)
+  pub wf-interlocks : (f g : ℕ) → isFlag f ≡ true → leb g 3 ≡ true → wellFormed (withInterlocks d f g) ≡ true
+  wf-interlocks f g p q =
+      wf-commands (interlocked (d .commands) f g) (d .age) _
+      record { fault = p; forcing = q; hand = said .hand; tool = said .tool; stored = said .stored; age = said .age }
+      (run-interlock (d .run) _ _ (forbidsRun (interlocked (d .commands) f g)) (its .run))
 
   -- a cleared record, before a start run
   pub wf-cleared : wellFormed (cleared d) ≡ true
-  unfolding runFits
-  wf-cleared = whole (cleared d) (its .params) (its .order) refl refl refl refl refl refl refl refl
+  unfolding runFits commandsFit lastFits
+  wf-cleared = whole _ record { params = its .params; order = its .order; commands = refl; last = refl; run = refl }
 
 -- What each kind of event does keeps a record well formed.
 
@@ -228,7 +227,7 @@ start-le s =
 
 -- the fresh drive is well formed
 pub wf-fresh : wellFormed freshDrive ≡ true
-unfolding wellFormed absentZero runFits allIn
+unfolding wellFormed commandsFit lastFits runFits allIn
 wf-fresh = refl
 
 module _ (d : Drive) (w : wellFormed d ≡ true) where
@@ -239,11 +238,10 @@ module _ (d : Drive) (w : wellFormed d ≡ true) where
   -- step 1 of a tick, and step 3
   wf-aged : wellFormed (aged d) ≡ true
   unfolding aged
-  wf-aged = wf-counts d w _ _ (off-pick (d .bus) _ _ (parts d w .age))
+  wf-aged = wf-counts d w _ _ (off-pick (d .commands .stored) _ _ (said d w .age))
 
-  wf-ran-down : wellFormed (ranDown d) ≡ true
-  unfolding ranDown
-  wf-ran-down = wf-run d w _ _ (run-down _ _ _ (forbidsRun (d .fault) (d .forcing)) (parts d w .run))
+  wf-ran-down : wellFormed (withRun d (ranDown (d .run))) ≡ true
+  wf-ran-down = wf-run d w _ (run-down (d .run) _ (forbidsRun (d .commands)) (parts d w .run))
 
   -- kind 3
   pub wf-commanded : (b c : ℕ) → wellFormed (commanded d b c) ≡ true
@@ -251,31 +249,36 @@ module _ (d : Drive) (w : wellFormed d ≡ true) where
   wf-commanded b c =
       pick-elim (λ (x : Drive). wellFormed x ≡ true) (eqb c 0)
       (λ e. wf-setpoint d w _)
-      (λ e. wf-tool d w (eqb c 1) _ (off-pick (eqb c 1) _ 0 (or-true (eqb c 1))))
+      (λ e. pick-elim (λ (t : ℕ). wellFormed (withTool d t (pick (eqb c 1) (toPosition b) 0)) ≡ true) (eqb c 1)
+      (λ q. wf-tool d w 1 _ refl)
+      (λ q. wf-tool d w 0 _ (rw q)))
 
   -- kind 6, where nothing forbids a run
-  pub wf-calibrated : forbidsRun (d .fault) (d .forcing) ≡ false → wellFormed (calibrated d) ≡ true
+  pub wf-calibrated : forbidsRun (d .commands) ≡ false → wellFormed (calibrated d) ≡ true
   unfolding calibrated
-  wf-calibrated h = wf-run d w _ _ (run-start 1 _ (forbidsRun (d .fault) (d .forcing)) refl k-pos h)
+  wf-calibrated h = wf-run d w _ (run-start 1 _ (forbidsRun (d .commands)) refl k-pos h)
 
   -- kind 9
   pub wf-restarted : wellFormed (restarted d) ≡ true
   unfolding restarted
-  wf-restarted = wf-run (cleared d) (wf-cleared d w) _ _ (run-start _ _ false (start-le (startSynchronization (d .params))) k-pos refl)
+  wf-restarted = wf-run (cleared d) (wf-cleared d w) _ (run-start _ _ false (start-le (startSynchronization (d .params))) k-pos refl)
 
   -- kind 8, where the value is in the table, Low would not exceed High, and Rate is not written during a run
   pub wf-write : (a v : ℕ) → takes a v ≡ true
       → ((eqb a lowNumber && ltb (high (d .params)) v) || (eqb a highNumber && ltb v (low (d .params)))) ≡ false
-      → eqb a rateNumber && running (d .run) ≡ false → wellFormed (withParam d (placeOf a) v) ≡ true
+      → eqb a rateNumber && running (d .run .kind) ≡ false → wellFormed (withParam d (placeOf a) v) ≡ true
   unfolding placeFrom
   wf-write a v t c r =
       let p = parts d w in
       let k = and-left (known a) _ t in
       let after = param-after (d .params) a v (all-length rows (d .params) (p .params)) k in
-      whole (withParam d (placeOf a) v) (all-set rows (d .params) (placeOf a) v (p .params) (and-right (known a) _ t))
-      (rw (after 10 lowNumber refl refl, after 11 highNumber refl refl) (order-kept (eqb a lowNumber) (eqb a highNumber) v _ _ (p .order) c)) (p .forcing)
-      (rw (after 9 rateNumber refl refl) (run-rate (eqb a rateNumber) _ _ v _ (forbidsRun (d .fault) (d .forcing)) r (p .run)))
-      (p .hand) (p .tool) (p .setpoint) (p .age) (p .lastpos) (p .laststatus)
+      whole _ record {
+        params = all-set rows (d .params) (placeOf a) v (p .params) (and-right (known a) _ t);
+        order = rw (after 10 lowNumber refl refl, after 11 highNumber refl refl) (order-kept (eqb a lowNumber) (eqb a highNumber) v _ _ (p .order) c);
+        commands = p .commands;
+        last = p .last;
+        run = rw (after 9 rateNumber refl refl) (run-rate (eqb a rateNumber) (d .run) v _ (forbidsRun (d .commands)) r (p .run));
+      }
 
 -- step 4 of a tick, due or not
 wf-tick-with : (b : Bool) (a : Advanced) → wellFormed (a .drive) ≡ true → wellFormed (tickWith b a .drive) ≡ true
@@ -285,7 +288,7 @@ wf-tick-with false a w = w
 
 -- steps 1 to 3 of a tick
 pub wf-advance : (d : Drive) → wellFormed d ≡ true → wellFormed (advance d .drive) ≡ true
-unfolding advance moved
+unfolding advance aged moved
 wf-advance d w = wf-ran-down _ (wf-position (aged d) (wf-aged d w) _)
 
 -- kind 1
@@ -295,18 +298,18 @@ wf-tick d w = wf-tick-with _ (advance d) (wf-advance d w)
 
 -- An accepted event keeps a record well formed.
 pub wf-applied : (d : Drive) (e : Event) → wellFormed d ≡ true → dataRefusal e ≡ 0
-    → stateRefusal e (damperMode (d .params)) (low (d .params)) (high (d .params)) (running (d .run)) (forbidsRun (d .fault) (d .forcing)) ≡ 0
+    → stateRefusal e (damperMode (d .params)) (low (d .params)) (high (d .params)) (running (d .run .kind)) (forbidsRun (d .commands)) ≡ 0
     → wellFormed (applied d e .drive) ≡ true
-unfolding obeyed applied
+unfolding obeyed applied formOf
 wf-applied d e w h r =
     by-kind Kept
     (λ a b c x y. wf-tick d w)
     (λ a b c x y. wf-setpoint d w a)
     (λ a b c x y. wf-commanded d w b c)
-    (λ a b c x y. wf-interlocks d w _ a (le-leb a 3 (ltb-false 3 a (or-left _ _ (or-left _ _ x)))))
-    (λ a b c x y. wf-hand d w (eqb a 1) _ (off-pick (eqb a 1) b 0 (or-true (eqb a 1))))
+    (λ a b c x y. wf-interlocks d w _ a (said d w .fault) (not-false _ x))
+    (λ a b c x y. wf-hand d w a _ (and-intro (not-false (isFlag a) x) (off-pick a b 0 (or-true (on a)))))
     (λ a b c x y. wf-calibrated d w (y .run))
-    (λ a b c x y. wf-interlocks d w (eqb a 1) _ (parts d w .forcing))
+    (λ a b c x y. wf-interlocks d w a _ (not-false _ x) (said d w .forcing))
     (λ a b c x y. wf-write d w a _ (not-false _ (y .range)) (y .order) (y .rate))
     (λ a b c x y. wf-restarted d w)
     (λ a b c x y. w)
@@ -315,7 +318,7 @@ wf-applied d e w h r =
   where
     Kept : ℕ → Type 0
     Kept k = (a b c : ℕ) → badA k a ≡ false
-        → Passed (event k a b c) (low (d .params)) (high (d .params)) (running (d .run)) (forbidsRun (d .fault) (d .forcing))
+        → Passed (event k a b c) (low (d .params)) (high (d .params)) (running (d .run .kind)) (forbidsRun (d .commands))
         → wellFormed (applied d (event k a b c) .drive) ≡ true
 
 -- Every record of bytes, accepted or refused, leaves a well-formed drive well formed.

@@ -6,8 +6,9 @@ use Prim.Native.Nat.{ℕ}
 use lib.Count.{leadingZeros}
 use lib.ListN.{drop, replicate}
 use Rattle.table.specs.Table.{allIn, placeFrom}
-use Rattle.event.specs.Event.{event, bytesOf, dataRefusal, recordRefusal}
+use Rattle.event.specs.Event.{event, bytesOf, formOf, dataRefusal, recordRefusal}
 use Rattle.motion.specs.Motion.{toPosition, runTicks, toward, motor}
+use Rattle.rules.specs.Commands.{commandsFit}
 use Rattle.rules.specs.Rank.{rulingRank, activeByte, backupTarget, targets}
 use Rattle.rules.specs.Report.{status, changed}
 use Rattle.rules.specs.Refusal.{stateRefusal, refusal}
@@ -16,10 +17,10 @@ use Rattle.damper.specs.declared.Outcome.{Outcome}
 use Rattle.answer.specs.declared.Answer.{Answer}
 use Rattle.answer.specs.declared.Answer.the-variants.{No, Done, Par, At, Tick, Report}
 use Rattle.damper.specs.Record.{freshDrive}
-use Rattle.damper.specs.WellFormed.{runFits, absentZero, wellFormed}
+use Rattle.damper.specs.WellFormed.{runFits, lastFits, wellFormed}
 use Rattle.damper.specs.Tick.{aged, targetAt, moved, ranDown, advance, dueWith}
-use Rattle.history.specs.Claim.{outcomes, driveAfter}
 use Rattle.damper.specs.Step.{tickWith, ticked, commanded, calibrated, restarted, obeyed, applied, refusalOf, stepOf}
+use Rattle.damper.specs.Carry.{outcomes, driveAfter}
 
 -- what a row speaks of
 pub data Seen : Type 0 where
@@ -43,7 +44,7 @@ tick = bytes 1 0 0 0
 
 -- the answers to a list of event records given to a fresh drive
 abbrev pub fromFresh : List (List ℕ) → List Answer
-fromFresh l = map (λ (o : Outcome). o .answer) (outcomes freshDrive l)
+fromFresh l = map (λ (o : Outcome). o .answer) (outcomes stepOf freshDrive l)
 
 -- the ruling rank that a tick's answer names; 7, which is no rank, for any other answer
 abbrev pub rankIn : Answer → ℕ
@@ -56,7 +57,7 @@ rankIn (Report p r m s) = r
 
 -- position, run and ticks left
 abbrev pub standing : Drive → List ℕ
-standing d = d .position ∷ d .run ∷ d .left ∷ []
+standing d = d .position ∷ d .run .kind ∷ d .run .left ∷ []
 
 abbrev pub table : List Row
 table =
@@ -83,10 +84,10 @@ table =
     -- m11 forcing 2, calibration: 13.
     ∷ row (answers (fromFresh (bytes 4 2 0 0 ∷ bytes 6 0 0 0 ∷ []))) (answers (Done ∷ No 13 ∷ []))
     -- m12 StartSynchronization 2, restart, 51 ticks: position 255, no run.
-    ∷ row (numbers (standing (driveAfter freshDrive (outcomes freshDrive (bytes 8 122 0 2 ∷ bytes 9 0 0 0 ∷ replicate 51 tick))))) (numbers (255 ∷ 0 ∷ 0 ∷ []))
+    ∷ row (numbers (standing (driveAfter freshDrive (outcomes stepOf freshDrive (bytes 8 122 0 2 ∷ bytes 9 0 0 0 ∷ replicate 51 tick))))) (numbers (255 ∷ 0 ∷ 0 ∷ []))
     ∷ []
 
 -- Each row holds.
 pub marked : map (λ (r : Row). r .got) table ≡ map (λ (r : Row). r .want) table
-unfolding allIn placeFrom dataRefusal recordRefusal toPosition runTicks toward motor rulingRank activeByte backupTarget targets status stateRefusal refusal runFits absentZero wellFormed aged targetAt moved ranDown advance dueWith tickWith ticked commanded calibrated restarted obeyed applied refusalOf stepOf outcomes driveAfter leadingZeros
+unfolding allIn placeFrom formOf dataRefusal recordRefusal toPosition runTicks toward motor rulingRank activeByte backupTarget targets status stateRefusal refusal commandsFit runFits lastFits wellFormed aged targetAt moved ranDown advance dueWith tickWith ticked commanded calibrated restarted obeyed applied refusalOf stepOf outcomes driveAfter leadingZeros
 marked = refl

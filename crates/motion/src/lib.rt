@@ -36,11 +36,10 @@ pub fn within(low: u8, high: u8, v: u8) -> u8
 pub fn toward(position: u8, target: u8, rate: u8) -> u8
     ensures { λ r. ⌜ r ≡ toward position target rate ⌝ }
 {
-    let step = numbers::min8(rate, numbers::distance(position, target));
     if position < target {
-        position + step
+        position + numbers::min8(rate, target - position)
     } else {
-        position - step
+        position - numbers::min8(rate, position - target)
     }
 }
 

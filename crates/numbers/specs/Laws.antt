@@ -1,9 +1,11 @@
 -- Laws of flags and of `pick`.
-use mathlib.Core.Path.{_≡_, refl, sym}
+use mathlib.Core.Path.{_≡_, refl, sym, _∙_}
 use mathlib.Core.Bool.{Bool, true, false, not, _&&_, _||_, false≢true}
-use Prim.Native.Nat.{ℕ, _≤_}
+use Prim.Native.Nat.{ℕ, zero, suc, _≤_}
 use native.Mathlib.Omega.{arith}
-use Rattle.numbers.specs.Numbers.{pick}
+use borrow.Author.Tests.{lt-leb, ne-eqb}
+use lib.Dec.{eqb}
+use Rattle.numbers.specs.Numbers.{pick, isFlag}
 
 pub and-left : (a b : Bool) → a && b ≡ true → a ≡ true
 and-left true b e = refl
@@ -37,3 +39,9 @@ pick-elim P false f g = g refl
 pub passed : (b : Bool) (n m : ℕ) → pick b n m ≡ 0 → 1 ≤ n → (b ≡ false) × (m ≡ 0)
 passed true n m e h = absurd (omega arith)
 passed false n m e h = (refl, e)
+
+-- a flag that is not set is 0
+pub flag-off : (f : ℕ) → (f ≡ 1 → ⊥) → isFlag f ≡ eqb f 0
+flag-off zero h = refl
+flag-off (suc zero) h = absurd (h refl)
+flag-off (suc (suc f)) h = lt-leb (suc (suc f)) 1 (omega arith) ∙ sym (ne-eqb (suc (suc f)) 0 (λ e. absurd (omega arith)))

@@ -1,11 +1,19 @@
 -- The small words that the definitions of document 01's drive are written in.
 use mathlib.Core.Bool.{Bool, true, false}
 use Prim.Native.Nat.{ℕ, _+_, _-_, min}
+use lib.Dec.{leb, eqb}
 
 -- `a` where the flag is set, else `b`
 abbrev pub pick : {A : Type 0} → Bool → A → A → A
 pick true a b = a
 pick false a b = b
+
+-- a flag held as a byte: set at 1, not set at 0, and no flag above
+abbrev pub on : ℕ → Bool
+on f = eqb f 1
+
+abbrev pub isFlag : ℕ → Bool
+isFlag f = leb f 1
 
 -- the weight `w` where the flag is set, else 0
 abbrev pub bit : Bool → ℕ → ℕ

@@ -2,7 +2,8 @@
 ghost use mathlib.Core.Path.{_≡_};
 ghost use Prim.Native.Nat.{_≤_};
 ghost use lib.ListN.{length};
-ghost use Rattle.history.specs.Claim.{outcomes, driveAfter};
+ghost use Rattle.damper.specs.Step.{stepOf};
+ghost use Rattle.damper.specs.Carry.{outcomes, driveAfter};
 ghost use Rattle.printer.specs.Page.{counted, countAfter, linesAfter, pageAfter, answered};
 use damper::Drive;
 
@@ -26,10 +27,10 @@ fn one_more(count: u64) -> u64
 // Gives the records of s, six bytes each and a shorter rest, to a drive that was given `given` of them before, and writes a line
 // for each: as many as the buffer has room for. Bytes after the last line keep their content.
 pub fn print_answers(mut d: Drive, given: u64, s: &[u8], out: &mut [u8]) -> Printed
-    ensures drive { λ r. ⌜ r .drive ≡ driveAfter d (outcomes d (answered (now (s .entry)) (now (out .entry)))) ⌝ }
-    ensures count { λ r. ⌜ r .count ≡ countAfter given (outcomes d (answered (now (s .entry)) (now (out .entry)))) ⌝ }
-    ensures used { λ r. ⌜ r .used ≡ length (linesAfter given (outcomes d (answered (now (s .entry)) (now (out .entry))))) ⌝ }
-    ensures bytes { λ _. ⌜ now (out .exit) ≡ pageAfter given (outcomes d (answered (now (s .entry)) (now (out .entry)))) (now (out .entry)) ⌝ }
+    ensures drive { λ r. ⌜ r .drive ≡ driveAfter d (outcomes stepOf d (answered (now (s .entry)) (now (out .entry)))) ⌝ }
+    ensures count { λ r. ⌜ r .count ≡ countAfter given (outcomes stepOf d (answered (now (s .entry)) (now (out .entry)))) ⌝ }
+    ensures used { λ r. ⌜ r .used ≡ length (linesAfter given (outcomes stepOf d (answered (now (s .entry)) (now (out .entry))))) ⌝ }
+    ensures bytes { λ _. ⌜ now (out .exit) ≡ pageAfter given (outcomes stepOf d (answered (now (s .entry)) (now (out .entry)))) (now (out .entry)) ⌝ }
     ensures within { λ r. ⌜ r .used ≤ length (now (out .exit)) ⌝ }
 {
     let room = out.len() / line::ROOM;

@@ -2,7 +2,8 @@
 ghost use mathlib.Core.Path.{_≡_};
 ghost use lib.ListN.{length};
 ghost use Rattle.answer.specs.Answer.{wordOf, codeOf};
-ghost use Rattle.history.specs.Claim.{outcomes, driveAfter};
+ghost use Rattle.damper.specs.Step.{stepOf};
+ghost use Rattle.damper.specs.Carry.{outcomes, driveAfter};
 ghost use Rattle.replay.specs.Replay.{carried, rowAfter};
 use damper::Drive;
 
@@ -16,10 +17,10 @@ pub struct Replayed {
 // Gives the records of s, six bytes each and a shorter rest, to the drive one after the other, as many as both rows have room
 // for, and writes each answer's word and its values to the rows. Further places of the rows keep their content.
 pub fn replay(mut d: Drive, s: &[u8], words: &mut [u8], codes: &mut [u32]) -> Replayed
-    ensures drive { λ r. ⌜ r .drive ≡ driveAfter d (outcomes d (carried (now (s .entry)) (now (words .entry)) (now (codes .entry)))) ⌝ }
+    ensures drive { λ r. ⌜ r .drive ≡ driveAfter d (outcomes stepOf d (carried (now (s .entry)) (now (words .entry)) (now (codes .entry)))) ⌝ }
     ensures count { λ r. ⌜ r .count ≡ length (carried (now (s .entry)) (now (words .entry)) (now (codes .entry))) ⌝ }
-    ensures words { λ _. ⌜ now (words .exit) ≡ rowAfter wordOf d (carried (now (s .entry)) (now (words .entry)) (now (codes .entry))) (now (words .entry)) ⌝ }
-    ensures codes { λ _. ⌜ now (codes .exit) ≡ rowAfter codeOf d (carried (now (s .entry)) (now (words .entry)) (now (codes .entry))) (now (codes .entry)) ⌝ }
+    ensures words { λ _. ⌜ now (words .exit) ≡ rowAfter wordOf (outcomes stepOf d (carried (now (s .entry)) (now (words .entry)) (now (codes .entry)))) (now (words .entry)) ⌝ }
+    ensures codes { λ _. ⌜ now (codes .exit) ≡ rowAfter codeOf (outcomes stepOf d (carried (now (s .entry)) (now (words .entry)) (now (codes .entry)))) (now (codes .entry)) ⌝ }
 {
     let room = numbers::min_size(words.len(), codes.len());
     let mut i: usize = 0;

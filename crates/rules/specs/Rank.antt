@@ -4,9 +4,10 @@ use mathlib.Core.List.{List, [], _∷_, map}
 use Prim.Native.Nat.{ℕ, _+_, _-_, _*_}
 use lib.Dec.{leb, eqb}
 use lib.Count.{leadingZeros}
-use Rattle.numbers.specs.Numbers.{pick, bit}
+use Rattle.numbers.specs.Numbers.{pick, on, bit}
 use Rattle.table.specs.Table.{backupMode, backupValue, low, high}
 use Rattle.motion.specs.Motion.{toPosition, within}
+use Rattle.rules.specs.declared.Commands.{Commands}
 
 -- who can command the damper (document 01: commander), by the names that 01 gives them
 pub data Source : Type 0 where
@@ -41,22 +42,25 @@ abbrev pub forced : ℕ → Bool
 forced g = eqb g 2 || eqb g 3
 
 -- "Bus is active when a setpoint exists and its age is at most Timeout"
-abbrev pub busActive : Bool → ℕ → ℕ → Bool
-busActive exists age timeout = exists && leb age timeout
+abbrev pub busActive : Commands → ℕ → ℕ → Bool
+busActive c age timeout = on (c .stored) && leb age timeout
 
--- what forbids a run: a fault `f`, or forcing `g` of 2 or 3
-abbrev pub forbidsRun : Bool → ℕ → Bool
-forbidsRun f g = f || forced g
+-- what forbids a run: a fault flag that is set, or forcing of 2 or 3
+abbrev pub forbids : ℕ → ℕ → Bool
+forbids f g = on f || forced g
 
--- whether a source is active, by fault flag, forcing, run, hand flag, tool flag and whether the bus is; "Backup is always active"
-abbrev pub activeOf : Bool → ℕ → ℕ → Bool → Bool → Bool → Source → Bool
-activeOf f g r h t b backup = true
-activeOf f g r h t b bus = b
-activeOf f g r h t b tool = t
-activeOf f g r h t b hand = h
-activeOf f g r h t b run = running r
-activeOf f g r h t b forcing = forced g
-activeOf f g r h t b fault = f
+abbrev pub forbidsRun : Commands → Bool
+forbidsRun c = forbids (c .fault) (c .forcing)
+
+-- whether a source is active, by the commands, the run and whether the bus is; "Backup is always active"
+abbrev pub activeOf : Commands → ℕ → Bool → Source → Bool
+activeOf c r b backup = true
+activeOf c r b bus = b
+activeOf c r b tool = on (c .tool)
+activeOf c r b hand = on (c .hand)
+activeOf c r b run = running r
+activeOf c r b forcing = forced (c .forcing)
+activeOf c r b fault = on (c .fault)
 
 -- flags as a number, the first at weight `w`, each next one at twice the weight
 abbrev pub numberFrom : ℕ → List Bool → ℕ
@@ -64,8 +68,8 @@ numberFrom w [] = 0
 numberFrom w (x ∷ xs) = bit x w + numberFrom (2 * w) xs
 
 -- "The active ones form one byte, rank r at bit r"
-unfoldable pub activeByte : Bool → ℕ → ℕ → Bool → Bool → Bool → ℕ
-activeByte f g r h t b = numberFrom 1 (map (activeOf f g r h t b) ranking)
+unfoldable pub activeByte : Commands → ℕ → Bool → ℕ
+activeByte c r b = numberFrom 1 (map (activeOf c r b) ranking)
 
 -- "the ruling rank is its highest set bit" (document 01: ruling), written as 7 less the leading zeros of the byte; that it is the
 -- highest set bit is the law `rank-highest`
@@ -84,23 +88,23 @@ abbrev pub limited : List ℕ → ℕ → ℕ
 limited q v = within (low q) (high q) v
 
 -- "backup with BackupMode 0, BackupValue as a position, likewise; with BackupMode 1, the last bus setpoint, likewise, or the
--- present position if there is none": present position, whether a setpoint exists and which, the parameters
-unfoldable pub backupTarget : ℕ → Bool → ℕ → List ℕ → ℕ
-backupTarget p e v q =
+-- present position if there is none"
+unfoldable pub backupTarget : Commands → ℕ → List ℕ → ℕ
+backupTarget c p q =
     pick (eqb (backupMode q) 0) (limited q (toPosition (backupValue q)))
-    (pick e (limited q v) p)
+    (pick (on (c .stored)) (limited q (c .setpoint)) p)
 
--- the target of a source, by present position, forcing, run, hand value, tool value, whether a setpoint exists and which, and
--- the parameters: "fault, the present position; .. hand, tool and bus, their value brought into Low to High"
-abbrev pub targetOf : ℕ → ℕ → ℕ → ℕ → ℕ → Bool → ℕ → List ℕ → Source → ℕ
-targetOf p g r h t e v q backup = backupTarget p e v q
-targetOf p g r h t e v q bus = limited q v
-targetOf p g r h t e v q tool = limited q t
-targetOf p g r h t e v q hand = limited q h
-targetOf p g r h t e v q run = runTarget r
-targetOf p g r h t e v q forcing = forcedTarget g
-targetOf p g r h t e v q fault = p
+-- the target of a source, by the commands, the run, the present position `p` and the parameters `q`: "fault, the present position;
+-- .. hand, tool and bus, their value brought into Low to High"
+abbrev pub targetOf : Commands → ℕ → ℕ → List ℕ → Source → ℕ
+targetOf c r p q backup = backupTarget c p q
+targetOf c r p q bus = limited q (c .setpoint)
+targetOf c r p q tool = limited q (c .toolpos)
+targetOf c r p q hand = limited q (c .handpos)
+targetOf c r p q run = runTarget r
+targetOf c r p q forcing = forcedTarget (c .forcing)
+targetOf c r p q fault = p
 
 -- the target at each rank
-unfoldable pub targets : ℕ → ℕ → ℕ → ℕ → ℕ → Bool → ℕ → List ℕ → List ℕ
-targets p g r h t e v q = map (targetOf p g r h t e v q) ranking
+unfoldable pub targets : Commands → ℕ → ℕ → List ℕ → List ℕ
+targets c r p q = map (targetOf c r p q) ranking

@@ -157,13 +157,16 @@ fn in_range(row: Row, v: u16) -> bool
 pub fn takes(n: u8, v: u16) -> bool
     ensures { λ r. ⌜ r ≡ takes n v ⌝ }
 {
-    let i = place_of(n);
-    if i < COUNT {
-        let table = TABLE;
-        in_range(table[i], v)
-    } else {
-        false
+    let table = TABLE;
+    let mut i: usize = 0;
+    while i < COUNT {
+        let row = table[i];
+        if row.number == n {
+            return in_range(row, v);
+        }
+        i += 1;
     }
+    false
 }
 
 // Whether each value lies in the range of its row.

@@ -1,31 +1,41 @@
--- From every turn on the loop gives what it gives from the start: the records left are those at `at`, as many as there is still room for.
-use borrow.Author.Needs.{needs}
+-- At every turn the rows are those after the outcomes so far, and the drive has been carried over them.
+use borrow.Author.Needs.{needs, scaled-fits}
 use mathlib.Core.Path.{_≡_, refl}
-use Prim.Native.Nat.{_≤_, _-_}
-use native.Mathlib.Nat.{sub-zero}
+use mathlib.Core.List.{List, [], _∷_, _++_}
+use Prim.Native.Nat.{_-_, min}
 use native.Mathlib.Omega.{arith}
-use lib.ListN.{length, take, drop}
-use Rattle.replay.specs.Replay.{carried}
-use Rattle.replay.specs.Laws.{Same, start, turn, done}
-use Rattle.event.specs.Records.{recordsOf}
-use Rattle.event.specs.RecordLaws.{left-none}
+use lib.ListN.{length}
+use Rattle.answer.specs.Answer.{wordOf, codeOf}
+use Rattle.damper.specs.declared.Outcome.{Outcome}
+use Rattle.damper.specs.Step.{stepOf}
+use Rattle.damper.specs.CarryLaws.{Carried, start, turn, full, ended, outcomes-length}
+use Rattle.replay.specs.Replay.{rowAfter}
+use Rattle.replay.specs.Laws.{row-more}
 use Rattle.replay.proofs.replay.Statement.{statement}
 use Rattle.replay.proofs.replay.Tie as tie
 
 abbrev Inv-loop : tie.InvT-loop
 Inv-loop d₀ s words₀ codes₀ room i₀ at₀ d words codes i at =
-    (at ≤ length s)
+    (os : List Outcome)
+    × Carried stepOf d₀ (min (length words₀) (length codes₀)) s os d i at
     × (length words ≡ length words₀)
     × (length codes ≡ length codes₀)
-    × Same d₀ (carried s words₀ codes₀) words₀ codes₀ i d (take (room - i) (recordsOf (drop at s))) words codes
+    × (words ≡ rowAfter wordOf os words₀)
+    × (codes ≡ rowAfter codeOf os codes₀)
 
 abbrev μ-loop : tie.MeasureT-loop
 μ-loop d₀ s words₀ codes₀ room i₀ at₀ d words codes i at = room - i
 
 loop-holds : tie.Need-loop-holds Inv-loop μ-loop
-loop-holds c =
-    let a = c .before .before .before .before .args in
-    (omega arith, refl, refl, rw (sub-zero, c .min-size .ensures) (start (a .d) _ (a .words .now) (a .codes .now)))
+unfolding rowAfter
+loop-holds c = ([], start, refl, refl, refl, refl)
+
+mul-codes : tie.Need-mul-codes Inv-loop μ-loop
+mul-codes c =
+    let g = c .before .before .before .before .before .before .before .before in
+    let a = g .before .before .before .before .before in
+    scaled-fits (g .loop .i) (length (a .args .codes .now)) 4
+    (omega (arith, c .before .before .before .before .before .before .before .loop-test .taken, g .before .min-size .ensures)) (a .good .1 .1 .1 .0 .1)
 
 loop-again : tie.Need-loop-again Inv-loop μ-loop
 loop-again c =
@@ -33,32 +43,32 @@ loop-again c =
     let size = c .before .before .before .before .before .min-size2 in
     let g = c .before .before .before .before .before .before .before .before in
     let l = g .loop in
+    let more = c .before .before .before .before .before .before .before .loop-test .taken in
+    let room = g .before .min-size .ensures in
+    let some = c .before .before .before .before .before .before .if1 .left in
     let a = g .before .before .before .before .before .args in (
+      l .inv .0 ++ (step .result ∷ []),
+      turn (l .inv .1) (omega (arith, more, room)) (omega (arith, some)) (size .ensures) (step .ensures),
       search needs,
       search needs,
-      search needs,
-      turn (a .d) _ (a .words .now) (a .codes .now) (g .before .min-size .result) (l .i) (l .d) (a .s .now) (l .at) (l .words) (l .codes)
-          (size .result) (step .result) (c .before .word .result) (c .code .result) (omega arith) (omega arith) (omega arith) (omega arith)
-          (size .ensures) (step .ensures) (c .before .word .ensures) (c .code .ensures) (l .inv .3),
+      row-more wordOf (l .inv .0) (a .words .now) (step .result) (omega (arith, more, room)) (l .inv .1 .count) (c .before .word .ensures) (l .inv .4),
+      row-more codeOf (l .inv .0) (a .codes .now) (step .result) (omega (arith, more, room)) (l .inv .1 .count) (c .code .ensures) (l .inv .5),
     )
 
 -- no room is left
 returns : tie.Need-returns Inv-loop μ-loop
 returns c =
-    let l = c .before .loop in
+    let l = c .before .loop .inv in
     let g = c .before .before in
-    let a = g .before .before .before .before .args in
-    let none : g .min-size .result - l .i ≡ 0 = omega arith in
-    done (a .d) _ (a .words .now) (a .codes .now) (l .i) (l .d) (l .words) (l .codes) (rw none at (l .inv .3))
+    let d = g .before .before .before .before .args .d in
+    rw (← outcomes-length stepOf d _, full (l .1) (omega (arith, g .min-size .ensures))) (l .1 .drive, (l .1 .count, (l .4, l .5)))
 
 -- no bytes are left
 returns-2 : tie.Need-returns-2 Inv-loop μ-loop
 returns-2 c =
-    let l = c .before .before .loop in
-    let g = c .before .before .before in
-    let a = g .before .before .before .before .args in
-    let none = left-none (g .min-size .result - l .i) (a .s .now) (l .at) (omega arith) in
-    done (a .d) _ (a .words .now) (a .codes .now) (l .i) (l .d) (l .words) (l .codes) (rw none at (l .inv .3))
+    let l = c .before .before .loop .inv in
+    let d = c .before .before .before .before .before .before .before .args .d in
+    rw (← outcomes-length stepOf d _, ended (l .1) (omega arith)) (l .1 .drive, (l .1 .count, (l .4, l .5)))
 
 pub replay-spec : {M : Type 1} → statement M
 replay-spec =
@@ -78,7 +88,7 @@ replay-spec =
     (λ c κs. search needs)
     (λ c. search needs)
     (λ c κs. search needs)
-    (λ c. search needs)
+    mul-codes
     (λ c. search needs)
     (λ c. search needs)
     (λ c. search needs)

@@ -8,12 +8,12 @@ use Rattle.damper.proofs.Drive.commanded.Tie as tie
 to-position-requires : tie.Need-to-position-requires
 to-position-requires c κs = c .before .pre (omega arith)
 
+to-position-requires-2 : tie.Need-to-position-requires-2
+to-position-requires-2 c κs = c .before .before .pre (omega arith)
+
 returns : tie.Need-returns
 unfolding commanded
 returns c = simp (eq-eqb _ _ (c .before .before .if1 .taken), c .with-setpoint .ensures, c .before .to-position .ensures)
-
-to-position-requires-2 : tie.Need-to-position-requires-2
-to-position-requires-2 c κs = c .before .before .pre (omega arith)
 
 returns-2 : tie.Need-returns-2
 unfolding commanded

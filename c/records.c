@@ -1,0 +1,271 @@
+/*
+ * Any bytes are a drive record: the proved drive, as a C host calls it, beside the plain one. Every flag byte on several
+ * records, records of random bytes, and well-formed records with one byte changed; well-formedness, answer and every field
+ * after an event must agree.
+ */
+#include "plain.h"
+
+#include <stdio.h>
+#include <stdlib.h>
+#include <string.h>
+
+#define AT(field, offset) _Static_assert(offsetof(drive, field) == (offset), #field)
+_Static_assert(sizeof(drive) == 44, "drive");
+AT(position, 0);
+AT(params, 2);
+AT(commands, 26);
+AT(commands.fault, 26);
+AT(commands.forcing, 27);
+AT(commands.hand, 28);
+AT(commands.handpos, 29);
+AT(commands.tool, 30);
+AT(commands.toolpos, 31);
+AT(commands.stored, 32);
+AT(commands.setpoint, 33);
+AT(age, 34);
+AT(run, 36);
+AT(run.kind, 36);
+AT(run.left, 37);
+AT(since, 38);
+AT(last, 40);
+AT(last.reported, 40);
+AT(last.position, 41);
+AT(last.status, 42);
+
+typedef struct {
+    drive drive;
+    uint8_t word;
+    uint32_t code;
+} stepped;
+
+typedef struct {
+    uint8_t refusal, kind, a, b, c;
+} found;
+
+drive drive_fresh(void);
+bool drive_well_formed(drive);
+stepped drive_step(drive, const uint8_t *bytes, size_t length);
+found event_read(const uint8_t *bytes, size_t length);
+uint8_t event_write(uint8_t *buffer, size_t length, uint8_t kind, uint8_t a, uint8_t b, uint8_t c);
+
+/* An event record of 0 to 7 bytes. */
+typedef struct {
+    uint8_t bytes[7];
+    size_t length;
+} event;
+
+static unsigned long steps, well_formed, carried_out;
+
+/* Xorshift, always the same numbers. */
+static uint64_t random_state = 0x5AC35AC35AC35AC3;
+
+static uint32_t random_below(uint32_t n)
+{
+    random_state ^= random_state << 13;
+    random_state ^= random_state >> 7;
+    random_state ^= random_state << 17;
+    return (uint32_t)((random_state >> 32) * n >> 32);
+}
+
+static uint8_t random_byte(void)
+{
+    return (uint8_t)random_below(256);
+}
+
+static void show(const char *name, const void *start, size_t length)
+{
+    const uint8_t *bytes = start;
+    printf("  %s:", name);
+    for (size_t i = 0; i < length; i++)
+        printf(" %02X", bytes[i]);
+    printf("\n");
+}
+
+static void differ(const char *what, const drive *before, const event *e, const stepped *proved, const stepped *plain)
+{
+    printf("records: %s\n", what);
+    show("record", before, sizeof *before);
+    show("event", e->bytes, e->length);
+    show("proved drive after", &proved->drive, sizeof proved->drive);
+    show("plain drive after", &plain->drive, sizeof plain->drive);
+    printf("  word and code: proved %u %08lX, plain %u %08lX\n", proved->word, (unsigned long)proved->code, plain->word,
+           (unsigned long)plain->code);
+    exit(1);
+}
+
+/* The groups have bytes only, or 16-bit numbers only, so no gap lies inside one. */
+static bool same(const drive *x, const drive *y)
+{
+    return x->position == y->position && !memcmp(x->params, y->params, sizeof x->params) &&
+           !memcmp(&x->commands, &y->commands, sizeof x->commands) && x->age == y->age &&
+           !memcmp(&x->run, &y->run, sizeof x->run) && x->since == y->since && !memcmp(&x->last, &y->last, sizeof x->last);
+}
+
+/* Gives whether the event was carried out. */
+static bool compare(const drive *before, const event *e)
+{
+    stepped plain = {.drive = *before};
+    plain_step(&plain.drive, e->bytes, e->length, &plain.word, &plain.code);
+    stepped proved = drive_step(*before, e->bytes, e->length);
+    bool fits = drive_well_formed(*before);
+
+    if (fits != plain_well_formed(before))
+        differ("well-formedness differs", before, e, &proved, &plain);
+    if (proved.word != plain.word || proved.code != plain.code)
+        differ("the answers differ", before, e, &proved, &plain);
+    if (!same(&proved.drive, &plain.drive))
+        differ("the records after differ", before, e, &proved, &plain);
+    if (proved.word == 0 && !same(&proved.drive, before))
+        differ("refused, and the record changes", before, e, &proved, &plain);
+    if (fits == (proved.word == 0 && proved.code == 1))
+        differ("well formed and refused by 1, or neither", before, e, &proved, &plain);
+    steps++;
+    well_formed += fits;
+    carried_out += proved.word != 0;
+    return proved.word != 0;
+}
+
+static event event_of(uint8_t kind, uint8_t a, uint8_t b, uint8_t c)
+{
+    return (event){{0x5A, 0xC3, kind, a, b, c}, 6};
+}
+
+/* Mostly one that is carried out; now and then one byte, or the length, is any. */
+static event random_event(void)
+{
+    static const uint8_t numbers[12] = {111, 115, 116, 117, 120, 121, 122, 201, 202, 203, 204, 205};
+    uint8_t number = numbers[random_below(12)], any = random_byte(), percent = (uint8_t)random_below(101);
+    uint8_t flag = (uint8_t)random_below(2), command = (uint8_t)random_below(3);
+    event e;
+    switch (random_below(16)) {
+    case 0: e = event_of(2, any, 0, 0); break;
+    case 1: e = event_of(3, 51, percent, command); break;
+    case 2: e = event_of(4, (uint8_t)random_below(4), 0, 0); break;
+    case 3: e = event_of(5, flag, any, 0); break;
+    case 4: e = event_of(6, flag, 0, 0); break;
+    case 5: e = event_of(7, flag, 0, 0); break;
+    case 6: e = event_of(8, number, 0, (uint8_t)random_below(4)); break;
+    case 7: e = event_of(8, number, 0, any); break;
+    case 8: e = event_of(9, 0, 0, 0); break;
+    case 9: e = event_of(10, 0, 0, 0); break;
+    case 10: e = event_of(11, number, 0, 0); break;
+    default: e = event_of(1, 0, 0, 0); break;
+    }
+    if (random_below(16) == 0)
+        e.bytes[random_below(6)] = any;
+    if (random_below(64) == 0)
+        e.length = random_below(8);
+    return e;
+}
+
+/* Each value of each flag of a record, with a tick, a setpoint, a read and a restart. */
+static void every_flag_byte(drive d)
+{
+    uint8_t *flags[5] = {&d.commands.fault, &d.commands.hand, &d.commands.tool, &d.commands.stored, &d.last.reported};
+    event events[4] = {event_of(1, 0, 0, 0), event_of(2, 128, 0, 0), event_of(10, 0, 0, 0), event_of(9, 0, 0, 0)};
+    for (int i = 0; i < 5; i++) {
+        uint8_t kept = *flags[i];
+        for (int value = 0; value < 256; value++) {
+            *flags[i] = (uint8_t)value;
+            for (int k = 0; k < 4; k++) {
+                if (compare(&d, &events[k]) && value > 1) {
+                    printf("records: a flag byte of %d is taken\n", value);
+                    exit(1);
+                }
+            }
+        }
+        *flags[i] = kept;
+    }
+}
+
+static void flag_bytes(void)
+{
+    drive d = drive_fresh(), plain;
+    plain_fresh(&plain);
+    if (!same(&d, &plain)) {
+        printf("records: the fresh drives differ\n");
+        exit(1);
+    }
+    every_flag_byte(d);
+    for (int i = 0; i < 100; i++) {
+        event e = random_event();
+        compare(&d, &e);
+        d = drive_step(d, e.bytes, e.length).drive;
+        every_flag_byte(d);
+    }
+    /* All five set, with values beside them; then the values alone. */
+    d.run.kind = d.run.left = 0;
+    memset(&d.commands, 1, sizeof d.commands);
+    memset(&d.last, 1, sizeof d.last);
+    every_flag_byte(d);
+    d.commands.fault = d.commands.hand = d.commands.tool = d.commands.stored = d.last.reported = 0;
+    every_flag_byte(d);
+}
+
+static void random_bytes(int records)
+{
+    for (int i = 0; i < records; i++) {
+        uint8_t bytes[sizeof(drive)];
+        for (size_t k = 0; k < sizeof bytes; k++)
+            bytes[k] = random_byte();
+        drive d;
+        memcpy(&d, bytes, sizeof d);
+        event e = random_event();
+        compare(&d, &e);
+    }
+}
+
+/* Records met on a list of events, each with one byte changed. */
+static void one_byte_changed(int records)
+{
+    drive met = drive_fresh();
+    for (int i = 0; i < records; i++) {
+        event e = random_event();
+        compare(&met, &e);
+        met = drive_step(met, e.bytes, e.length).drive;
+
+        uint8_t bytes[sizeof(drive)];
+        memcpy(bytes, &met, sizeof bytes);
+        size_t place = random_below(sizeof bytes);
+        bytes[place] = random_byte();
+        drive d;
+        memcpy(&d, bytes, sizeof d);
+        e = random_event();
+        compare(&d, &e);
+    }
+}
+
+/* What is written is read back, and a refused event is not written. */
+static void written_events(int events)
+{
+    for (int i = 0; i < events; i++) {
+        event e = random_event();
+        uint8_t *b = e.bytes, buffer[6] = {0};
+        uint8_t refusal = event_write(buffer, sizeof buffer, b[2], b[3], b[4], b[5]);
+        uint8_t due[6] = {0x5A, 0xC3, b[2], b[3], b[4], b[5]};
+        found f = event_read(due, sizeof due);
+        bool agree = refusal == f.refusal;
+        if (refusal == 0)
+            agree = agree && !memcmp(buffer, due, 6) && f.kind == b[2] && f.a == b[3] && f.b == b[4] && f.c == b[5];
+        else
+            agree = agree && !memcmp(buffer, (uint8_t[6]){0}, 6);
+        if (!agree) {
+            printf("records: writer and reader differ\n");
+            show("event", due, sizeof due);
+            exit(1);
+        }
+    }
+}
+
+int main(void)
+{
+    flag_bytes();
+    unsigned long with_flags = steps;
+    random_bytes(1000000);
+    one_byte_changed(1000000);
+    written_events(100000);
+    printf("records in C: %lu steps over every flag byte and %lu on random bytes, on a list and with one byte changed agree; "
+           "%lu on well-formed records, %lu carried out\n",
+           with_flags, steps - with_flags, well_formed, carried_out);
+    return 0;
+}

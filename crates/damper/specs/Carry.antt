@@ -1,0 +1,19 @@
+-- A drive carried over a list of event records, one after the other.
+use mathlib.Core.List.{List, [], _∷_}
+use Prim.Native.Nat.{ℕ}
+use Rattle.damper.specs.declared.Drive.{Drive}
+use Rattle.damper.specs.declared.Outcome.{Outcome}
+
+-- a step of a drive, right or wrong: what an event record does to it, and the answer
+abbrev pub Step : Type 0
+Step = Drive → List ℕ → Outcome
+
+-- "each later one to the drive that the one before left, refused or not": what a list of records gives, in its order
+unfoldable pub outcomes : Step → Drive → List (List ℕ) → List Outcome
+outcomes step d [] = []
+outcomes step d (s ∷ ss) = let o = step d s in o ∷ outcomes step (o .drive) ss
+
+-- the drive after them
+unfoldable pub driveAfter : Drive → List Outcome → Drive
+driveAfter d [] = d
+driveAfter d (o ∷ os) = driveAfter (o .drive) os
