@@ -10,6 +10,7 @@ use Rattle.numbers.specs.Numbers.{pick}
 use Rattle.table.specs.Table.{rows, rowAt, inRange, allIn, placeOf, known}
 use Rattle.event.specs.Event.{eventIn, dataRefusal}
 use Rattle.event.specs.Laws.{record-passed}
+use Rattle.rules.specs.CommandsLaws.{Flags, flags}
 use Rattle.rules.specs.RefusalLaws.{refusal-passed}
 use Rattle.table.specs.Laws.{Ranges, ranges, range-at}
 use Rattle.damper.specs.declared.Drive.{Drive}
@@ -22,6 +23,10 @@ wf-in d h = (simp and-eq-true-iff at h) .0
 
 pub wf-ranges : (d : Drive) → wellFormed d ≡ true → Ranges (d .params)
 wf-ranges d h = ranges _ (wf-in d h)
+
+pub wf-flags : (d : Drive) → wellFormed d ≡ true → Flags (d .commands)
+unfolding wellFormed
+wf-flags d h = flags _ (d .age) ((simp and-eq-true-iff at h) .1 .1 .0)
 
 -- the range rule at a read: the value that a read of a parameter answers with is in its row's range
 pub read-range : (d : Drive) (n : ℕ) → wellFormed d ≡ true → known n ≡ true → inRange (rowAt rows (placeOf n)) (getD (d .params) (placeOf n) 0) ≡ true

@@ -2,6 +2,7 @@
 ghost use mathlib.Core.Path.{_≡_};
 ghost use Prim.Native.Nat.{_<_, _≤_};
 ghost use Rattle.table.specs.Laws.{Ranges};
+ghost use Rattle.rules.specs.CommandsLaws.{Flags};
 ghost use Rattle.rules.specs.Rank.{activeByte};
 ghost use Rattle.damper.specs.Tick.{targetAt, busOn, ruling};
 use crate::Drive;
@@ -9,18 +10,19 @@ use numbers::bit;
 use numbers::pick8;
 use rules::Commands;
 
-// The active ranks as one byte, rank r at bit r.
+// The active ranks as one byte, rank r at bit r. A flag of 0 or 1 is its own bit.
 fn active(c: Commands, run: u8, bus: bool) -> u8
+    requires { ⌜ Flags c ⌝ }
     ensures value { λ r. ⌜ r ≡ activeByte c run bus ⌝ }
     ensures bound { λ r. ⌜ (1 ≤ r) × (r < 128) ⌝ }
 {
     bit(true, 1 << Drive::BACKUP)
         + bit(bus, 1 << Drive::BUS)
-        + bit(c.tool == 1, 1 << Drive::TOOL)
-        + bit(c.hand == 1, 1 << Drive::HAND)
+        + c.tool * (1 << Drive::TOOL)
+        + c.hand * (1 << Drive::HAND)
         + bit(run != rules::NO_RUN, 1 << Drive::RUN)
         + bit(rules::forced(c.forcing), 1 << Drive::FORCING)
-        + bit(c.fault == 1, 1 << Drive::FAULT)
+        + c.fault * (1 << Drive::FAULT)
 }
 
 impl Drive {
@@ -33,6 +35,7 @@ impl Drive {
 
     // The ruling rank of the record as it is.
     pub fn ruling(self) -> u8
+        requires { ⌜ Flags (self .commands) ⌝ }
         ensures value { λ r. ⌜ r ≡ ruling self ⌝ }
         ensures bound { λ r. ⌜ r < 7 ⌝ }
     {

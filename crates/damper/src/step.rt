@@ -6,6 +6,8 @@ ghost use lib.ListN.{getD};
 ghost use Rattle.table.specs.Table.{known, placeOf};
 ghost use Rattle.table.specs.Laws.{Ranges};
 ghost use Rattle.event.specs.Event.{dataRefusal};
+ghost use Rattle.rules.specs.CommandsLaws.{Flags};
+ghost use Rattle.damper.specs.WellFormed.{wellFormed};
 ghost use Rattle.damper.specs.Step.{commanded, calibrated, restarted, applied, refusalOf, stepOf};
 use crate::Drive;
 use crate::NO_RUN;
@@ -72,6 +74,7 @@ impl Drive {
     // longer.
     fn applied(mut self, e: Event) -> Outcome
         requires { ⌜ Ranges (self .params) ⌝ }
+        requires { ⌜ Flags (self .commands) ⌝ }
         requires { ⌜ dataRefusal e ≡ 0 ⌝ }
         ensures { λ r. ⌜ r ≡ applied self e ⌝ }
     {
@@ -132,11 +135,12 @@ impl Drive {
         }
     }
 
-    // The first of the refusals 1 to 13 that fits, or 0.
-    fn refusal(self, s: &[u8]) -> u8
+    // The first of the refusals 1 to 13 that fits, or 0, where it is known whether the record is well formed.
+    fn refusal(self, formed: bool, s: &[u8]) -> u8
+        requires { ⌜ formed ≡ wellFormed self ⌝ }
         ensures { λ r. ⌜ r ≡ refusalOf self (now (s .entry)) ⌝ }
     {
-        if !self.well_formed() {
+        if !formed {
             return 1;
         }
         let n = event::refusal(s);
@@ -154,11 +158,13 @@ impl Drive {
         )
     }
 
-    // One event record, of any bytes: the answer and the drive after it. A refusal gives the same drive.
-    pub fn step(self, s: &[u8]) -> Outcome
+    // One event record, of any bytes, where it is known whether the record is well formed. A caller that gives one event after the
+    // other tests the first record only, since an event leaves a record as well formed as it was (`formed-kept`).
+    pub fn step_if(self, formed: bool, s: &[u8]) -> Outcome
+        requires { ⌜ formed ≡ wellFormed self ⌝ }
         ensures { λ r. ⌜ r ≡ stepOf self (now (s .entry)) ⌝ }
     {
-        let n = self.refusal(s);
+        let n = self.refusal(formed, s);
         if n != 0 {
             return Outcome {
                 drive: self,
@@ -166,5 +172,12 @@ impl Drive {
             };
         }
         self.applied(event::event_in(s))
+    }
+
+    // One event record, of any bytes: the answer and the drive after it. A refusal gives the same drive.
+    pub fn step(self, s: &[u8]) -> Outcome
+        ensures { λ r. ⌜ r ≡ stepOf self (now (s .entry)) ⌝ }
+    {
+        self.step_if(self.well_formed(), s)
     }
 }

@@ -2,6 +2,7 @@
 ghost use mathlib.Core.Path.{_≡_};
 ghost use Prim.Native.Nat.{_<_};
 ghost use Rattle.table.specs.Laws.{Ranges};
+ghost use Rattle.rules.specs.CommandsLaws.{Flags};
 ghost use Rattle.damper.specs.Tick.{aged, moved, ranDown, advance, statusOf, dueWith};
 ghost use Rattle.damper.specs.Step.{ticked};
 use crate::Advanced;
@@ -59,6 +60,7 @@ impl Drive {
     // Steps 1 to 3.
     pub(crate) fn advance(self) -> Advanced
         requires { ⌜ Ranges (self .params) ⌝ }
+        requires { ⌜ Flags (self .commands) ⌝ }
         ensures { λ r. ⌜ r ≡ advance self ⌝ }
     {
         let a = self.aged();
@@ -103,6 +105,7 @@ impl Drive {
     // Kind 1.
     pub(crate) fn tick(self) -> Outcome
         requires { ⌜ Ranges (self .params) ⌝ }
+        requires { ⌜ Flags (self .commands) ⌝ }
         ensures { λ r. ⌜ r ≡ ticked self ⌝ }
     {
         let a = self.advance();

@@ -1,22 +1,22 @@
 -- Demand 3 as a claim about a trace. From the trace come only the answers, which may be reports, and the damper's positions;
 -- what is accepted, in force or active, the target, the position and the status that a tick leaves are read off the list.
 use mathlib.Core.Path.{_≡_}
-use mathlib.Core.Bool.{Bool, true, false, _&&_}
+use mathlib.Core.Bool.{Bool, true, false, _&&_, _||_}
 use mathlib.Core.List.{List, [], _∷_, _++_}
-use Prim.Native.Nat.{ℕ, _+_, _≤_}
+use Prim.Native.Nat.{ℕ, _+_, _≤_, min}
 use lib.Dec.{eqb}
-use Rattle.numbers.specs.Numbers.{pick}
+use Rattle.numbers.specs.Numbers.{pick, distance}
 use Rattle.table.specs.Table.{minRepTime, actPosCov, rate}
 use Rattle.event.specs.declared.Event.{Event}
 use Rattle.event.specs.Event.{eventIn}
-use Rattle.motion.specs.Motion.{toward}
-use Rattle.rules.specs.Report.{changed}
+use Rattle.rules.specs.Report.{changed, Sent, silent, sent, reportDue}
 use Rattle.answer.specs.declared.Answer.{Answer}
 use Rattle.answer.specs.declared.Answer.the-variants.{No, Done, Par, At, Tick, Report}
 use Rattle.damper.specs.declared.Outcome.{Outcome}
 use Rattle.damper.specs.Record.{freshDrive}
 use Rattle.damper.specs.Carry.{Step, outcomes}
 use Rattle.answer.specs.Answer.{numberOf, isReport}
+use Rattle.history.specs.Log.{Entry, entry}
 use Rattle.history.specs.Readings.{isTick, isRestart, parameters, targetFrom, positionIn, statusIn, judgement}
 
 -- one record of the list: its bytes, the answer that it got and the damper's position after it
@@ -49,10 +49,6 @@ positionAfter [] = 0
 positionAfter (m ∷ t) = m .position
 
 -- what an answer reports, if anything: position and status
-pub data Sent : Type 0 where
-  silent : Sent
-  sent : ℕ → ℕ → Sent
-
 abbrev pub reportIn : Answer → Sent
 reportIn (No n) = silent
 reportIn Done = silent
@@ -103,10 +99,13 @@ Waiting m t = (row old : Trace) → m ∷ t ≡ row ++ old → acceptedAs isTick
     × (changed (actPosCov (inForce m t)) (positionIn (accepted (m ∷ t))) p ≡ false)
 
 -- "Each tick moves the damper by Rate or the distance, the smaller, toward the target of the highest commander which the list
--- makes active then."
+-- makes active then": so far does it move, and so much less is left to the target
 abbrev pub Move : Moment → Trace → Type 0
 Move m t = acceptedAs isTick m t ≡ true
-    → m .position ≡ toward (positionAfter t) (targetFrom (positionAfter t) (eventIn (m .bytes)) (accepted t)) (rate (inForce m t))
+    → (let before = positionAfter t in
+    let target = targetFrom before (eventIn (m .bytes)) (accepted t) in
+    let step = min (rate (inForce m t)) (distance before target) in
+    (distance before (m .position) ≡ step) × (distance (m .position) target + step ≡ distance before target))
 
 -- "after every event that position is the one read here"
 abbrev pub Position : Moment → Trace → Type 0
@@ -119,6 +118,16 @@ Content m t = reports m ≡ true → reportIn (m .answer) ≡ sent (positionIn (
 -- "No other event moves the damper or sends a spontaneous report."
 abbrev pub Others : Moment → Trace → Type 0
 Others m t = acceptedAs isTick m t ≡ false → (m .position ≡ positionAfter t) × (reports m ≡ false)
+
+-- Ours, from step 4: a tick reports just where it is due by the ticks after the latest report or restart, or from the beginning on,
+-- itself counted, by the position and the status that it leaves, and by the last report since the last restart.
+unfoldable pub since : Trace → ℕ
+since [] = 0
+since (m ∷ t) = let n = since t in pick (reports m || acceptedAs isRestart m t) 0 (pick (acceptedAs isTick m t) (n + 1) n)
+
+abbrev pub Due : Moment → Trace → Type 0
+Due m t = acceptedAs isTick m t ≡ true
+    → reports m ≡ reportDue (inForce m t) (since t + 1) (positionIn (accepted (m ∷ t))) (statusIn (accepted (m ∷ t))) (lastReport t)
 
 -- each answer refuses by exactly the number of the list's own judgement, 0 if accepted
 abbrev pub Refusal : Moment → Trace → Type 0
@@ -135,6 +144,7 @@ pub record Holds (m : Moment) (t : Trace) : Type 0 where
   pub position : Position m t
   pub content : Content m t
   pub others : Others m t
+  pub due : Due m t
   pub refusal : Refusal m t
   pub formed : Formed m t
 
@@ -152,3 +162,16 @@ traceOn t (s ∷ ss) (o ∷ os) = traceOn (momentOf s o ∷ t) ss os
 -- "The first event record goes to a fresh drive", whose step is `step`
 abbrev pub traceOf : Step → List (List ℕ) → Trace
 traceOf step l = traceOn [] l (outcomes step freshDrive l)
+
+-- the reports among what a list of records gave, `n` records having come before: numbers of the records, and what the answers say
+abbrev pub entriesOf : ℕ → Sent → List Entry → List Entry
+entriesOf n silent es = es
+entriesOf n (sent p s) es = entry n p s ∷ es
+
+unfoldable pub reportsFrom : ℕ → List Outcome → List Entry
+reportsFrom n [] = []
+reportsFrom n (o ∷ os) = entriesOf (n + 1) (reportIn (o .answer)) (reportsFrom (n + 1) os)
+
+-- the log of a drive that was fresh at first
+abbrev pub logOf : Step → List (List ℕ) → List Entry
+logOf step l = reportsFrom 0 (outcomes step freshDrive l)

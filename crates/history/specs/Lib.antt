@@ -1,5 +1,6 @@
 -- Demand 3: what is read off a list of events, the claim, and its proof.
 pub mod Readings
+pub mod Log
 pub mod Claim
 pub mod ReadLaws
 pub mod RunLaws

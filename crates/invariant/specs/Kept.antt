@@ -10,7 +10,7 @@ use lib.ListN.{getD, set, length}
 use lib.Seq.{getD-set-same, getD-set-other}
 use borrow.Author.Tests.{leb-true, leb-false, eqb-true, eqb-false, ltb-true, ltb-false, le-leb, eq-eqb}
 use Rattle.numbers.specs.Numbers.{pick, on, isFlag, bit}
-use Rattle.numbers.specs.Laws.{and-left, and-right, and-intro, or-left, not-false, pick-elim}
+use Rattle.numbers.specs.Laws.{cases, and-left, and-right, and-intro, or-left, not-false, pick-elim}
 use Rattle.table.specs.declared.Row.{Row}
 use Rattle.table.specs.Table.{rateNumber, lowNumber, highNumber, rows, rowAt, allIn, placeFrom, placeOf, known, takes, damperMode, startSynchronization, rate, low, high}
 use Rattle.table.specs.Laws.{all-length, all-set}
@@ -330,3 +330,8 @@ wf-step d s w =
     let t = refusal-passed s _ _ _ _ _ (rw w at (eqb-true (refusalOf d s) 0 e)) in
     wf-applied d (eventIn s) w (record-passed s (t .0) .1) (t .1))
     (λ e. w)
+
+-- So a record is as well formed after an event as it was before it.
+pub formed-kept : (d : Drive) (s : List ℕ) → wellFormed (stepOf d s .drive) ≡ wellFormed d
+unfolding stepOf refusalOf
+formed-kept d s = cases (wellFormed d) (λ w. wf-step d s w ∙ sym w) (λ w. rw w w)

@@ -1,11 +1,11 @@
 -- Laws of flags and of `pick`.
 use mathlib.Core.Path.{_≡_, refl, sym, _∙_}
 use mathlib.Core.Bool.{Bool, true, false, not, _&&_, _||_, false≢true}
-use Prim.Native.Nat.{ℕ, zero, suc, _≤_}
+use Prim.Native.Nat.{ℕ, zero, suc, _*_, _≤_}
 use native.Mathlib.Omega.{arith}
 use borrow.Author.Tests.{lt-leb, ne-eqb}
 use lib.Dec.{eqb}
-use Rattle.numbers.specs.Numbers.{pick, isFlag}
+use Rattle.numbers.specs.Numbers.{pick, on, isFlag, bit}
 
 pub and-left : (a b : Bool) → a && b ≡ true → a ≡ true
 and-left true b e = refl
@@ -45,3 +45,9 @@ pub flag-off : (f : ℕ) → (f ≡ 1 → ⊥) → isFlag f ≡ eqb f 0
 flag-off zero h = refl
 flag-off (suc zero) h = absurd (h refl)
 flag-off (suc (suc f)) h = lt-leb (suc (suc f)) 1 (omega arith) ∙ sym (ne-eqb (suc (suc f)) 0 (λ e. absurd (omega arith)))
+
+-- a flag of 0 or 1 is its own bit
+pub flag-bit : (f w : ℕ) → f ≤ 1 → bit (on f) w ≡ f * w
+flag-bit zero w h = omega arith
+flag-bit (suc zero) w h = omega arith
+flag-bit (suc (suc f)) w h = absurd (omega arith)

@@ -36,6 +36,7 @@ pub fn print_answers(mut d: Drive, given: u64, s: &[u8], out: &mut [u8]) -> Prin
     let room = out.len() / line::ROOM;
     let mut count = given;
     let mut used: usize = 0;
+    let formed = d.well_formed();
     let mut i: usize = 0;
     let mut at: usize = 0;
     while i < room {
@@ -44,7 +45,7 @@ pub fn print_answers(mut d: Drive, given: u64, s: &[u8], out: &mut [u8]) -> Prin
             break;
         }
         let end = at + numbers::min_size(left, event::LENGTH);
-        let o = d.step(&s[at..end]);
+        let o = d.step_if(formed, &s[at..end]);
         let next = o.drive;
         let answer = o.answer;
         count = one_more(count);

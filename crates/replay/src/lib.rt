@@ -23,6 +23,7 @@ pub fn replay(mut d: Drive, s: &[u8], words: &mut [u8], codes: &mut [u32]) -> Re
     ensures codes { λ _. ⌜ now (codes .exit) ≡ rowAfter codeOf (outcomes stepOf d (carried (now (s .entry)) (now (words .entry)) (now (codes .entry)))) (now (codes .entry)) ⌝ }
 {
     let room = numbers::min_size(words.len(), codes.len());
+    let formed = d.well_formed();
     let mut i: usize = 0;
     let mut at: usize = 0;
     while i < room {
@@ -31,7 +32,7 @@ pub fn replay(mut d: Drive, s: &[u8], words: &mut [u8], codes: &mut [u32]) -> Re
             break;
         }
         let end = at + numbers::min_size(left, event::LENGTH);
-        let o = d.step(&s[at..end]);
+        let o = d.step_if(formed, &s[at..end]);
         let next = o.drive;
         let a = o.answer;
         words[i] = a.word();

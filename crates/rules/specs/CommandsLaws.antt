@@ -1,10 +1,11 @@
 -- Commands that fit, with one group changed.
 use mathlib.Core.Path.{_≡_, refl}
 use mathlib.Core.Bool.{true, and-eq-true-iff}
-use Prim.Native.Nat.{ℕ}
+use Prim.Native.Nat.{ℕ, _≤_}
 use lib.Dec.{leb}
+use borrow.Author.Tests.{leb-true}
 use Rattle.numbers.specs.Numbers.{isFlag}
-use Rattle.numbers.specs.Laws.{and-intro}
+use Rattle.numbers.specs.Laws.{and-left, and-intro}
 use Rattle.rules.specs.declared.Commands.{Commands}
 use Rattle.rules.specs.Commands.{interlocked, handed, overridden, written, offZero, flagged, commandsFit}
 
@@ -36,3 +37,18 @@ pub whole : (c : Commands) (a : ℕ) → Parts c a → commandsFit c a ≡ true
 unfolding commandsFit
 whole c a p =
     and-intro (and-intro (p .fault) (p .forcing)) (and-intro (p .hand) (and-intro (p .tool) (and-intro (p .stored) (p .age))))
+
+-- flags of 0 and 1
+pub record Flags (c : Commands) : Type 0 where
+  pub fault : c .fault ≤ 1
+  pub hand : c .hand ≤ 1
+  pub tool : c .tool ≤ 1
+
+pub flags : (c : Commands) (a : ℕ) → commandsFit c a ≡ true → Flags c
+flags c a w =
+    let p = parts c a w in
+    record {
+      fault = leb-true _ _ (p .fault);
+      hand = leb-true _ _ (and-left (isFlag (c .hand)) _ (p .hand));
+      tool = leb-true _ _ (and-left (isFlag (c .tool)) _ (p .tool));
+    }

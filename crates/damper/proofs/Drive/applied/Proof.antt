@@ -10,17 +10,17 @@ unfolding applied obeyed
 returns c = rw (c .before .match .keys1) (simp (c .tick .ensures))
 
 commanded-requires : tie.Need-commanded-requires
-commanded-requires c κs = percent-most (c .before .args .e) (c .before .pre .1) (c .match .keys3)
+commanded-requires c κs = percent-most (c .before .args .e) (c .before .pre .1 .1) (c .match .keys3)
 
 with-param-requires : tie.Need-with-param-requires
-with-param-requires c κs = rw (c .before .place-of .ensures) (ltb-true _ _ (known-write (c .before .before .before .args .e) (c .before .before .before .pre .1) (c .before .before .match .keys8)))
+with-param-requires c κs = rw (c .before .place-of .ensures) (ltb-true _ _ (known-write (c .before .before .before .args .e) (c .before .before .before .pre .1 .1) (c .before .before .match .keys8)))
 
 returns-2 : tie.Need-returns-2
 unfolding applied obeyed
 returns-2 c = rw (c .before .before .match .keys9) (simp (c .status .ensures, c .before .to-percent .ensures))
 
 parameter-requires : tie.Need-parameter-requires
-parameter-requires c κs = known-read (c .before .args .e) (c .before .pre .1) (c .match .keys10)
+parameter-requires c κs = known-read (c .before .args .e) (c .before .pre .1 .1) (c .match .keys10)
 
 returns-3 : tie.Need-returns-3
 unfolding applied obeyed

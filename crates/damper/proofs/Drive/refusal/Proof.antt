@@ -9,13 +9,13 @@ use Rattle.damper.proofs.Drive.refusal.Tie as tie
 
 returns : tie.Need-returns
 unfolding refusalOf
-returns c = rw (← (c .before .well-formed .ensures), not-true (c .before .well-formed .result) (c .if1 .taken))
+returns c = rw (← (c .before .before .pre), not-true (c .before .before .args .formed) (c .if1 .taken))
 
 returns-2 : tie.Need-returns-2
 unfolding refusalOf refusal
-returns-2 c =
-    let w = c .before .before .before .well-formed in
-    rw (← (w .ensures), not-false (w .result) (c .before .before .if1 .left))
+returns-2 c = 
+    let start = c .before .before .before .before in
+    rw (← (start .pre), not-false (start .args .formed) (c .before .before .if1 .left))
     (rw (← (c .before .refusal .ensures), ne-eqb (c .before .refusal .result) 0 (c .if2 .taken)))
 
 event-in-requires : tie.Need-event-in-requires
@@ -23,12 +23,12 @@ event-in-requires c κs = record-passed _ (sym (c .before .before .refusal .ensu
 
 returns-3 : tie.Need-returns-3
 unfolding refusalOf refusal
-returns-3 c =
-    let w = c .before .before .before .before .before .before .before .before .well-formed in
+returns-3 c = 
+    let start = c .before .before .before .before .before .before .before .before .before in
     let n = c .before .before .before .before .before .before .refusal in
-    rw (← (w .ensures), not-false (w .result) (c .before .before .before .before .before .before .before .if1 .left))
+    rw (← (start .pre), not-false (start .args .formed) (c .before .before .before .before .before .before .before .if1 .left))
     (rw (← (n .ensures), eq-eqb (n .result) 0 (c .before .before .before .before .before .if2 .left))
     (rw (c .state-refusal .ensures, c .before .forbids-run .ensures, c .before .before .before .event-in .ensures)))
 
 pub refusal-spec : {M : Type 1} → statement M
-refusal-spec = tie.close (tie.spec (λ c κs. search needs) returns (λ c κs. search needs) returns-2 event-in-requires (λ c. search needs) (λ c. search needs) (λ c. search needs) (λ c κs. search needs) (λ c κs. search needs) returns-3)
+refusal-spec = tie.close (tie.spec returns (λ c κs. search needs) returns-2 event-in-requires (λ c. search needs) (λ c. search needs) (λ c. search needs) (λ c κs. search needs) (λ c κs. search needs) returns-3)
