@@ -2,18 +2,20 @@
 use mathlib.Core.Path.{_≡_, refl, sym, ap, _∙_}
 use mathlib.Core.Bool.{Bool, true, false, not, _&&_, _||_, false≢true}
 use mathlib.Core.List.{List, _∷_}
-use Prim.Native.Nat.{ℕ, _+_, _≤_}
+use Prim.Native.Nat.{ℕ, _+_, _<_, _≤_, min}
 use native.Mathlib.Omega.{arith}
 use lib.Dec.{leb, eqb}
 use lib.ListN.{length}
-use borrow.Author.Tests.{leb-true, le-leb, eqb-true, ne-eqb}
+use borrow.Author.Tests.{leb-true, leb-false, le-leb, lt-leb, eqb-true, ne-eqb}
 use Rattle.numbers.specs.Numbers.{pick, on, next}
-use Rattle.numbers.specs.Laws.{and-left, and-right, not-false}
-use Rattle.table.specs.Table.{minRepTime, actPosCov, repPer}
+use Rattle.numbers.specs.Laws.{cases, and-left, and-right}
+use Rattle.table.specs.Table.{rows, rowAt, allIn, minRepTime, actPosCov, repPer}
+use Rattle.table.specs.Laws.{range-at, bounds}
 use Rattle.event.specs.declared.Event.{Event}
 use Rattle.event.specs.Event.{eventIn, badMark, badKind, unusedSet, badA, badCommand, badPercent, dataRefusal, recordRefusal}
 use Rattle.event.specs.Laws.{admitted, record-passed}
-use Rattle.rules.specs.Report.{changed}
+use Rattle.motion.specs.Laws.{move-distance, move-left}
+use Rattle.rules.specs.Report.{changed, Sent, silent, sent, reportDue}
 use Rattle.rules.specs.Refusal.{wrongProperty, outsideTable, lowAboveHigh, rateInRun, runForbidden, stateRefusal, refusal}
 use Rattle.rules.specs.RefusalLaws.{refusal-passed}
 use Rattle.answer.specs.declared.Answer.{Answer}
@@ -33,11 +35,12 @@ use Rattle.history.specs.Readings as R
 use Rattle.history.specs.ReadLaws.{parameters-other}
 use Rattle.history.specs.Claim as C
 use Rattle.history.specs.Claim.{momentOf}
+use Rattle.history.specs.Waits.{silent-in}
 use Rattle.history.specs.Agree.{Agrees, agrees-applied, position-kept, move-agrees, status-agrees}
 
 -- the last report that the record holds
-abbrev pub lastOf : Last → C.Sent
-lastOf l = pick (on (l .reported)) (C.sent (l .position) (l .status)) C.silent
+abbrev pub lastOf : Last → Sent
+lastOf l = pick (on (l .reported)) (sent (l .position) (l .status)) silent
 
 -- the record agrees with the list, and the trace with the record
 pub record Good (d : Drive) (t : C.Trace) : Type 0 where
@@ -45,24 +48,13 @@ pub record Good (d : Drive) (t : C.Trace) : Type 0 where
   pub agrees : Agrees d (C.accepted t)
   pub position : d .position ≡ R.positionIn (C.accepted t)
   pub trace : C.positionAfter t ≡ d .position
+  pub since : d .since ≡ min (C.since t) 65535
   pub last : lastOf (d .last) ≡ C.lastReport t
 
 -- what the record `s` does to the drive `d` after the trace `t`, `o` being the outcome
 pub record Facts (d : Drive) (t : C.Trace) (s : List ℕ) (o : Outcome) : Type 0 where
   pub good : Good (o .drive) (momentOf s o ∷ t)
-  -- a report clears since, a tick raises it by one at most, and nothing but a restart or a report lowers it
-  pub since-sent : C.reports (momentOf s o) ≡ true → o .drive .since ≡ 0
-  pub since-most : o .drive .since ≤ pick (C.acceptedAs R.isTick (momentOf s o) t) (d .since + 1) (d .since)
-  pub since-kept : C.acceptedAs R.isRestart (momentOf s o) t ≡ false → C.reports (momentOf s o) ≡ false
-      → o .drive .since ≡ pick (C.acceptedAs R.isTick (momentOf s o) t) (next (d .since)) (d .since)
-  -- what is sent is due
-  pub sent-due : C.reports (momentOf s o) ≡ true
-      → (C.acceptedAs R.isTick (momentOf s o) t ≡ true) × (minRepTime (C.inForce (momentOf s o) t) ≤ d .since + 1)
-  -- what is due is sent
-  pub due-sent : C.acceptedAs R.isTick (momentOf s o) t ≡ true → C.reports (momentOf s o) ≡ false
-      → minRepTime (C.inForce (momentOf s o) t) ≤ next (d .since)
-      → (on (d .last .reported) ≡ true) × (R.statusIn (C.accepted (momentOf s o ∷ t)) ≡ d .last .status)
-      × (changed (actPosCov (C.inForce (momentOf s o) t)) (R.positionIn (C.accepted (momentOf s o ∷ t))) (d .last .position) ≡ false)
+  pub due : C.Due (momentOf s o) t
   pub move : C.Move (momentOf s o) t
   pub content : C.Content (momentOf s o) t
   pub others : C.Others (momentOf s o) t
@@ -102,16 +94,12 @@ not-one s m l h r f =
 
 module _ (d : Drive) (t : C.Trace) (s : List ℕ) (g : Good d t) (j : R.judgement (C.accepted t) s ≡ 0 → ⊥) where
   pub facts-refused : Facts d t s (outcome d (No (R.judgement (C.accepted t) s)))
-  unfolding C.accepted C.lastReport R.judgement
+  unfolding C.accepted C.since C.lastReport R.judgement
   facts-refused =
       let J : eqb (R.judgement (C.accepted t) s) 0 ≡ false = ne-eqb _ 0 j in
       record {
-        good = record { wf = g .wf; agrees = rw J (g .agrees); position = rw J (g .position); trace = refl; last = rw J (g .last) };
-        since-sent = λ q. absurd (false≢true q);
-        since-most = rw J (omega arith);
-        since-kept = λ p q. rw J;
-        sent-due = λ q. absurd (false≢true q);
-        due-sent = λ p. absurd (false≢true (rw J at p));
+        good = record { wf = g .wf; agrees = rw J (g .agrees); position = rw J (g .position); trace = refl; since = rw J (g .since); last = rw J (g .last) };
+        due = λ p. absurd (false≢true (rw J at p));
         move = λ p. absurd (false≢true (rw J at p));
         content = λ q. absurd (false≢true q);
         others = λ p. (sym (g .trace), refl);
@@ -119,39 +107,22 @@ module _ (d : Drive) (t : C.Trace) (s : List ℕ) (g : Good d t) (j : R.judgemen
         formed = not-one s _ _ _ _ _;
       }
 
--- since under a restart, a tick and a report that is due
-since-zero : (r t q : Bool) (n : ℕ) → t && q ≡ true → pick r 0 (pick t (pick q 0 (next n)) n) ≡ 0
-since-zero true t q n e = refl
-since-zero false true true n e = refl
-since-zero false true false n e = absurd (false≢true e)
-since-zero false false q n e = absurd (false≢true e)
-
-since-rises : (r t q : Bool) (n : ℕ) → pick r 0 (pick t (pick q 0 (next n)) n) ≤ pick t (n + 1) n
-since-rises true t q n = omega arith
-since-rises false true true n = omega arith
-since-rises false true false n = omega arith
-since-rises false false q n = omega arith
-
-since-counts : (r t q : Bool) (n : ℕ) → r ≡ false → t && q ≡ false → pick r 0 (pick t (pick q 0 (next n)) n) ≡ pick t (next n) n
-since-counts true t q n e f = absurd (false≢true (sym e))
-since-counts false true true n e f = absurd (false≢true (sym f))
-since-counts false true false n e f = refl
-since-counts false false q n e f = refl
+-- since after a restart, a tick, a report that is due or neither, capped and not
+since-law : (r t q : Bool) (a n : ℕ) → a ≡ min n 65535
+    → pick r 0 (pick t (pick q 0 (next a)) a) ≡ min (pick ((t && q) || r) 0 (pick t (n + 1) n)) 65535
+since-law true true true a n e = refl
+since-law true true false a n e = refl
+since-law true false q a n e = refl
+since-law false true true a n e = refl
+since-law false true false a n e = omega arith
+since-law false false q a n e = e
 
 -- the last report after a restart, a report or neither
-last-law : (r q : Bool) (p s : ℕ) (l : Last) (x y : C.Sent) → (q ≡ true → x ≡ C.sent p s) → (q ≡ false → x ≡ C.silent) → lastOf l ≡ y
-    → lastOf (pick r (last 0 0 0) (pick q (last 1 p s) l)) ≡ pick r C.silent (C.orEarlier x y)
+last-law : (r q : Bool) (p s : ℕ) (l : Last) (x y : Sent) → (q ≡ true → x ≡ sent p s) → (q ≡ false → x ≡ silent) → lastOf l ≡ y
+    → lastOf (pick r (last 0 0 0) (pick q (last 1 p s) l)) ≡ pick r silent (C.orEarlier x y)
 last-law true q p s l x y a b c = refl
 last-law false true p s l x y a b c = rw (a refl)
 last-law false false p s l x y a b c = rw (b refl) c
-
-pub silent-in : (a : Answer) → isReport a ≡ false → C.reportIn a ≡ C.silent
-silent-in (No n) e = refl
-silent-in Done e = refl
-silent-in (Par v) e = refl
-silent-in (At p c s) e = refl
-silent-in (Tick p r m) e = refl
-silent-in (Report p r m s) e = absurd (false≢true (sym e))
 
 -- step 4 does not touch what the status is made of
 tick-status : (b : Bool) (a : Advanced) → statusOf (tickWith b a .drive) ≡ statusOf (a .drive)
@@ -159,20 +130,29 @@ unfolding tickWith
 tick-status true a = refl
 tick-status false a = refl
 
--- step 4 that is not due though the time is up: none of its reasons holds
-not-due-law : (w r c e p : Bool) → w && (((r || c) || e) || p) ≡ false → w ≡ true → (r ≡ false) × (c ≡ false) × (e ≡ false)
-not-due-law true true c e p z w = absurd (false≢true (sym z))
-not-due-law true false true e p z w = absurd (false≢true (sym z))
-not-due-law true false false true p z w = absurd (false≢true (sym z))
-not-due-law true false false false p z w = (refl, refl, refl)
-not-due-law false r c e p z w = absurd (false≢true w)
+-- step 4 by the record's last report, and by what that says
+due-law : (q : List ℕ) (n p s : ℕ) (l : Last)
+    → leb (minRepTime q) n
+    && (((not (on (l .reported)) || changed (actPosCov q) p (l .position)) || not (eqb s (l .status))) || leb (repPer q) n)
+    ≡ reportDue q n p s (lastOf l)
+unfolding reportDue
+due-law q n p s l = cases (on (l .reported)) (λ e. rw e) (λ e. rw e)
 
-and-only : (a b : Bool) → a ≡ true → a && b ≡ false → b ≡ false
-and-only true b e f = f
-and-only false b e f = absurd (false≢true e)
+-- a limit below the cap is reached by a capped count where the count reaches it
+capped-least : (n t : ℕ) → t < 65535 → leb t (min n 65535) ≡ leb t n
+capped-least n t h =
+    cases (leb t n)
+    (λ e. let l : t ≤ n = leb-true t n e in le-leb t (min n 65535) (omega arith) ∙ sym e)
+    (λ e. let l : n < t = leb-false t n e in lt-leb t (min n 65535) (omega arith) ∙ sym e)
 
-same-changed : (c c′ p p′ l l′ : ℕ) → c ≡ c′ → p ≡ p′ → l ≡ l′ → changed c p l ≡ changed c′ p′ l′
-same-changed c c′ p p′ l l′ x y z = rw (x, y, z)
+-- so step 4 is the same by a since that is capped
+due-capped : (q : List ℕ) (n p s : ℕ) (x : Sent) → allIn rows q ≡ true → reportDue q (next (min n 65535)) p s x ≡ reportDue q (n + 1) p s x
+unfolding reportDue
+due-capped q n p s x r =
+    let c : next (min n 65535) ≡ min (n + 1) 65535 = omega arith in
+    let a = bounds (rowAt rows 3) (minRepTime q) (range-at rows q 3 r (omega arith)) .1 in
+    let b = bounds (rowAt rows 8) (repPer q) (range-at rows q 8 r (omega arith)) .1 in
+    rw (c, capped-least (n + 1) (minRepTime q) (omega (arith, a)), capped-least (n + 1) (repPer q) (omega (arith, b)))
 
 -- an accepted record
 module _ (d : Drive) (t : C.Trace) (s : List ℕ) (g : Good d t) (j : R.judgement (C.accepted t) s ≡ 0) where
@@ -218,28 +198,14 @@ module _ (d : Drive) (t : C.Trace) (s : List ℕ) (g : Good d t) (j : R.judgemen
       ∙ sym (ap (λ (x : Outcome). statusOf (x .drive)) z)
       ∙ status-agrees (applied d e .drive) (e ∷ h) wf′ agrees′
 
-  -- what step 4 asks, in the list's terms
-  due-since : due (advance d .drive) ≡ true → minRepTime (d .params) ≤ next (d .since)
+  -- step 4 of a tick, in the list's terms
+  due-tick : e .kind ≡ 1
+      → due (advance d .drive) ≡ reportDue (R.parameters (e ∷ h)) (C.since t + 1) (R.positionIn (e ∷ h)) (R.statusIn (e ∷ h)) (C.lastReport t)
   unfolding dueWith
-  due-since q =
-      rw (F.advance-params d, F.advance-since d)
-      at (leb-true (minRepTime (advance d .drive .params)) (advance d .drive .since)
-      (and-left (leb (minRepTime (advance d .drive .params)) (advance d .drive .since)) _ q))
-
-  not-due : e .kind ≡ 1 → due (advance d .drive) ≡ false → minRepTime (d .params) ≤ next (d .since)
-      → (on (d .last .reported) ≡ true) × (R.statusIn (e ∷ h) ≡ d .last .status)
-      × (changed (actPosCov (d .params)) (R.positionIn (e ∷ h)) (d .last .position) ≡ false)
-  unfolding dueWith
-  not-due k q l =
-      let a = advance d .drive in
-      let x : minRepTime (a .params) ≤ a .since = rw (F.advance-params d, F.advance-since d) l in
-      let z =
-      not-due-law (leb (minRepTime (a .params)) (a .since)) (not (on (a .last .reported))) (changed (actPosCov (a .params)) (a .position) (a .last .position))
-      (not (eqb (statusOf a) (a .last .status))) (leb (repPer (a .params)) (a .since)) q (le-leb _ _ x) in (
-        sym (ap (λ (l : Last). on (l .reported)) (F.advance-last d)) ∙ not-false (on (a .last .reported)) (z .0),
-        sym (status-tick k) ∙ eqb-true _ _ (not-false (eqb (statusOf a) (a .last .status)) (z .2)) ∙ ap (λ (l : Last). l .status) (F.advance-last d),
-        sym (same-changed _ _ _ _ _ _ (ap actPosCov (F.advance-params d)) (position-tick k) (ap (λ (l : Last). l .position) (F.advance-last d))) ∙ z .1,
-      )
+  due-tick k =
+      due-law (advance d .drive .params) (advance d .drive .since) (advance d .drive .position) (statusOf (advance d .drive)) (advance d .drive .last)
+      ∙ rw (status-tick k, position-tick k, F.advance-params d, F.advance-since d, F.advance-last d, g .since, g .last)
+      (due-capped (d .params) (C.since t) _ _ _ (K.parts d (g .wf) .params) ∙ rw (params-tick k))
 
   tick-kind : C.acceptedAs R.isTick (momentOf s (applied d e)) t ≡ true → e .kind ≡ 1
   tick-kind p = eqb-true (e .kind) 1 (and-right (eqb (R.judgement (C.accepted t) s) 0) _ p)
@@ -250,10 +216,10 @@ module _ (d : Drive) (t : C.Trace) (s : List ℕ) (g : Good d t) (j : R.judgemen
       (eqb-true (e .kind) 1 (and-left (eqb (e .kind) 1) _ z), and-right (eqb (e .kind) 1) _ z)
 
   sent-what : (k : e .kind ≡ 1) → due (advance d .drive) ≡ true
-      → C.reportIn (applied d e .answer) ≡ C.sent (advance d .drive .position) (statusOf (advance d .drive))
+      → C.reportIn (applied d e .answer) ≡ sent (advance d .drive .position) (statusOf (advance d .drive))
   sent-what k q = ap C.reportIn (F.answer-report d e k q)
 
-  last′ : lastOf (applied d e .drive .last) ≡ pick (R.isRestart e) C.silent (C.orEarlier (C.reportIn (applied d e .answer)) (C.lastReport t))
+  last′ : lastOf (applied d e .drive .last) ≡ pick (R.isRestart e) silent (C.orEarlier (C.reportIn (applied d e .answer)) (C.lastReport t))
   last′ =
       rw (F.last-after d e ok)
       (last-law (R.isRestart e) (R.isTick e && due (advance d .drive)) _ _ (d .last) _ _
@@ -261,33 +227,28 @@ module _ (d : Drive) (t : C.Trace) (s : List ℕ) (g : Good d t) (j : R.judgemen
       (λ q. silent-in (applied d e .answer) (F.report-after d e ok ∙ q))
       (g .last))
 
+  since′ : applied d e .drive .since
+      ≡ min (pick (isReport (applied d e .answer) || R.isRestart e) 0 (pick (R.isTick e) (C.since t + 1) (C.since t))) 65535
+  since′ =
+      F.since-after d e ok
+      ∙ since-law (R.isRestart e) (R.isTick e) (due (advance d .drive)) (d .since) (C.since t) (g .since)
+      ∙ rw (F.report-after d e ok)
+
   pub facts-accepted : Facts d t s (applied d e)
-  unfolding C.accepted C.lastReport
+  unfolding C.accepted C.since C.lastReport
   facts-accepted =
       record {
-        good = record { wf = wf′; agrees = rw J agrees′; position = rw J position′; trace = refl; last = rw J last′ };
-        since-sent = λ q. F.since-after d e ok ∙ since-zero (R.isRestart e) (R.isTick e) (due (advance d .drive)) (d .since) (sym (F.report-after d e ok) ∙ q);
-        since-most = rw (J, F.since-after d e ok) (since-rises (R.isRestart e) (R.isTick e) (due (advance d .drive)) (d .since));
-        since-kept =
-            λ p q.
-            F.since-after d e ok
-            ∙ rw J (since-counts (R.isRestart e) (R.isTick e) (due (advance d .drive)) (d .since) (rw J at p) (sym (F.report-after d e ok) ∙ q));
-        sent-due =
-            λ q.
-            let k = sent-tick q .0 in
-            let l : minRepTime (d .params) ≤ next (d .since) = due-since (sent-tick q .1) in
-            (rw (J, k), rw (J, params-tick k) (omega arith));
-        due-sent =
-            λ p q l.
+        good = record { wf = wf′; agrees = rw J agrees′; position = rw J position′; trace = refl; since = rw J since′; last = rw J last′ };
+        due =
+            λ p.
             let k = tick-kind p in
-            let n = and-only (eqb (e .kind) 1) (due (advance d .drive)) (rw k) (sym (F.report-after d e ok) ∙ q) in
-            let l′ : minRepTime (d .params) ≤ next (d .since) = rw (J, params-tick k) at l in
-            rw J (rw (params-tick k) (not-due k n l′));
+            let q : isReport (applied d e .answer) ≡ due (advance d .drive) = F.report-after d e ok ∙ rw k in
+            q ∙ rw J (due-tick k);
         move =
             λ p.
             let k = tick-kind p in
-            rw (J, parameters-other e h (rw k), g .trace ∙ g .position)
-            ((F.position-after d e ok ∙ rw k) ∙ move-agrees d h (g .wf) (g .agrees) (g .position) e dr wf′ k);
+            let q = (F.position-after d e ok ∙ rw k) ∙ move-agrees d h (g .wf) (g .agrees) (g .position) e dr wf′ k in
+            rw (J, parameters-other e h (rw k), g .trace ∙ g .position, q) (move-distance _ _ _, move-left _ _ _);
         content = λ q. let k = sent-tick q .0 in sent-what k (sent-tick q .1) ∙ rw (J, position-tick k, status-tick k);
         others =
             λ p.

@@ -5,5 +5,7 @@ pub mod Claim
 pub mod ReadLaws
 pub mod RunLaws
 pub mod Agree
+pub mod Waits
 pub mod Facts
 pub mod Theorem
+pub mod LogLaws
