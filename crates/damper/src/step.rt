@@ -12,8 +12,8 @@ ghost use Rattle.damper.specs.Step.{commanded, calibrated, restarted, ap
 use crate::Drive;
 use crate::NO_RUN;
 use crate::Outcome;
-use crate::pick_run;
 use crate::Run;
+use crate::pick_run;
 use answer::Answer;
 use event::Event;
 use numbers::pick8;

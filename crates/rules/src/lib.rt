@@ -99,7 +99,10 @@ pub fn backup_target(c: Commands, position: u8, params: [u16; table::COUNT]) -> 
     ensures { λ r. ⌜ r ≡ backupTarget c position params ⌝ }
 {
     if params[table::BACKUP_MODE] == 0 {
-        return limited(params, motion::to_position(params[table::BACKUP_VALUE] as u8));
+        return limited(
+            params,
+            motion::to_position(params[table::BACKUP_VALUE] as u8),
+        );
     }
     if c.stored == 1 {
         return limited(params, c.setpoint);

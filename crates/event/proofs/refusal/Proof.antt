@@ -1,5 +1,6 @@
 use Rattle.event.specs.Event.{dataRefusal, recordRefusal}
-use mathlib.Core.Path.{ap, _∙_}
+use mathlib.Core.Path.{_≡_, ap, _∙_}
+use lib.ListN.{length}
 use borrow.Author.Tests.{eq-eqb, ne-eqb}
 use borrow.Author.Needs.{needs}
 use Rattle.event.proofs.refusal.Statement.{statement}
@@ -7,7 +8,9 @@ use Rattle.event.proofs.refusal.Tie as tie
 
 returns : tie.Need-returns
 unfolding recordRefusal
-returns c = simp (ne-eqb _ _ (c .if1 .taken))
+returns c =
+    let wrong : length (c .before .before .args .s .now) ≡ 6 → ⊥ = c .if1 .taken in
+    simp (ne-eqb _ _ wrong)
 
 returns-2 : tie.Need-returns-2
 unfolding recordRefusal

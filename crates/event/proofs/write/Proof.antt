@@ -1,7 +1,8 @@
 use Rattle.event.specs.Event.{writeRefusal, writtenTo, event}
 use borrow.Author.Tests.{lt-ltb, le-ltb, eq-eqb, ne-eqb}
 use native.Mathlib.Omega.{arith}
-use lib.ListN.{length-set}
+use Prim.Native.Nat.{_<_}
+use lib.ListN.{length, length-set}
 use Rattle.event.specs.Laws.{stored}
 use borrow.Author.Needs.{needs}
 use Rattle.event.proofs.write.Statement.{statement}
@@ -9,7 +10,9 @@ use Rattle.event.proofs.write.Tie as tie
 
 returns : tie.Need-returns
 unfolding writeRefusal writtenTo
-returns c = (simp (lt-ltb _ _ (c .if1 .taken)), simp (lt-ltb _ _ (c .if1 .taken)))
+returns c =
+    let short : length (c .before .before .args .buf .now) < 6 = c .if1 .taken in
+    (simp (lt-ltb _ _ short), simp (lt-ltb _ _ short))
 
 returns-2 : tie.Need-returns-2
 unfolding writeRefusal writtenTo

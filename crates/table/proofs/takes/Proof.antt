@@ -32,7 +32,7 @@ returns : tie.Need-returns Inv-loop μ-loop
 returns c =
     let w = c .before .before .before .before .before .loop in
     let p : placeFrom rows 0 (c .before .before .before .before .before .before .args .n) ≡ w .i =
-        cc (w .inv .1, hit rows _ _ (c .before .before .before .before .loop-test .taken) (c .before .if1 .taken)) in
+    cc (w .inv .1, hit rows _ _ (c .before .before .before .before .loop-test .taken) (c .before .if1 .taken)) in
     rw (p, lt-ltb _ _ (c .before .before .before .before .loop-test .taken)) (c .in-range .ensures)
 
 add-i : tie.Need-add-i Inv-loop μ-loop
@@ -51,7 +51,7 @@ returns-2 : tie.Need-returns-2 Inv-loop μ-loop
 returns-2 c =
     let w = c .before .loop in
     let p : placeFrom rows 0 (c .before .before .args .n) ≡ w .i =
-        cc (w .inv .1, none rows _ (c .before .before .args .n) (c .loop-test .left)) in
+    cc (w .inv .1, none rows _ (c .before .before .args .n) (c .loop-test .left)) in
     rw (p, le-ltb _ _ (c .loop-test .left))
 
 pub takes-spec : {M : Type 1} → statement M

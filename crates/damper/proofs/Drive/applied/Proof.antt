@@ -56,7 +56,7 @@ returns-10 c = rw (c .before .before .before .match .keys8) (simp (c .with-param
 
 returns-11 : tie.Need-returns-11
 unfolding applied obeyed
-returns-11 c = 
+returns-11 c =
     let k = c .before .before .args .e .kind in
     let n = c .before .match .rest in
     rw (ne-eqb k 1 (n .0 .0 .0 .0 .0 .0 .0 .0 .0 .1), ne-eqb k 2 (n .0 .0 .0 .0 .0 .0 .0 .0 .1), ne-eqb k 3 (n .0 .0 .0 .0 .0 .0 .0 .1), ne-eqb k 4 (n .0 .0 .0 .0 .0 .0 .1), ne-eqb k 5 (n .0 .0 .0 .0 .0 .1), ne-eqb k 6 (n .0 .0 .0 .0 .1), ne-eqb k 7 (n .0 .0 .0 .1), ne-eqb k 8 (n .0 .0 .1), ne-eqb k 10 (n .0 .1), ne-eqb k 11 (n .1))

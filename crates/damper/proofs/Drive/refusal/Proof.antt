@@ -13,7 +13,7 @@ returns c = rw (← (c .before .before .pre), not-true (c .before .before .args 
 
 returns-2 : tie.Need-returns-2
 unfolding refusalOf refusal
-returns-2 c = 
+returns-2 c =
     let start = c .before .before .before .before in
     rw (← (start .pre), not-false (start .args .formed) (c .before .before .if1 .left))
     (rw (← (c .before .refusal .ensures), ne-eqb (c .before .refusal .result) 0 (c .if2 .taken)))
@@ -23,7 +23,7 @@ event-in-requires c κs = record-passed _ (sym (c .before .before .refusal .ensu
 
 returns-3 : tie.Need-returns-3
 unfolding refusalOf refusal
-returns-3 c = 
+returns-3 c =
     let start = c .before .before .before .before .before .before .before .before .before in
     let n = c .before .before .before .before .before .before .refusal in
     rw (← (start .pre), not-false (start .args .formed) (c .before .before .before .before .before .before .before .if1 .left))

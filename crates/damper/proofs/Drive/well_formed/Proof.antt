@@ -16,14 +16,14 @@ returns-2 c = rw (← (c .before .before .all-in .ensures), not-false (c .before
 
 returns-3 : tie.Need-returns-3
 unfolding wellFormed
-returns-3 c = 
+returns-3 c =
     let all = c .before .before .before .before .all-in in
     rw (← (all .ensures), not-false (all .result) (c .before .before .before .if1 .left), le-leb _ _ (c .before .before .if2 .left))
     (rw (← (c .before .fit .ensures), not-true (c .before .fit .result) (c .if3 .taken)))
 
 returns-4 : tie.Need-returns-4
 unfolding wellFormed
-returns-4 c = 
+returns-4 c =
     let all = c .before .before .before .before .before .before .all-in in
     let commands = c .before .before .before .fit in
     let last = c .before .fits2 in
@@ -36,7 +36,7 @@ fits-requires-2 c κs = ranges _ (sym (c .before .before .before .before .before
 
 returns-5 : tie.Need-returns-5
 unfolding wellFormed
-returns-5 c = 
+returns-5 c =
     let all = c .before .before .before .before .before .before .before .before .all-in in
     let commands = c .before .before .before .before .before .fit in
     let last = c .before .before .before .fits2 in

@@ -10,7 +10,7 @@ returns c = simp (c .if1 .taken)
 
 returns-2 : tie.Need-returns-2
 unfolding lastFits
-returns-2 c = 
+returns-2 c =
     let off = c .before .before .before .if1 .left in
     rw (flag-off _ off, ne-eqb _ _ off)
 

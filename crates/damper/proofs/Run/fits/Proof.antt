@@ -13,13 +13,13 @@ unfolding runFits
 returns c = rw (c .if1 .taken)
 
 mul-bounded : tie.Need-mul-bounded
-mul-bounded c = 
+mul-bounded c =
     let l : c .before .before .args .self .left < 256 = search needs in
     record { fits = lt-of-le-of-lt (mul-le-mul (le-pred-of-lt l) (le-pred-of-lt (c .before .before .fits .rate .fits))) (lit< tt) }
 
 returns-2 : tie.Need-returns-2
 unfolding runFits
-returns-2 c = 
+returns-2 c =
     let a = c .before .before .before .args in
     simp (ne-eqb _ _ (c .before .if1 .left), run-ticks-test (a .rate) (a .self .left) (c .before .before .before .pre))
 

@@ -7,11 +7,11 @@ use Rattle.damper.proofs.rank.active.Tie as tie
 
 returns : tie.Need-returns
 unfolding activeByte
-returns c = 
+returns c =
     let a = c .before .before .before .before .before .before .before .before .args .c in
     let f = c .before .before .before .before .before .before .before .before .pre in (
       simp (flag-bit (a .tool) 4 (f .tool), flag-bit (a .hand) 8 (f .hand), flag-bit (a .fault) 64 (f .fault), c .before .bit4 .ensures .0, c .before .before .forced .ensures, c .before .before .before .bit3 .ensures .0, c .before .before .before .before .before .before .bit2 .ensures .0, c .before .before .before .before .before .before .before .bit .ensures .0)
-      (omega arith),
+          (omega arith),
       omega (arith, f .tool, f .hand, f .fault),
     )
 
