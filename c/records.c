@@ -42,11 +42,11 @@ typedef struct {
     uint8_t refusal, kind, a, b, c;
 } found;
 
-drive drive_fresh(void);
-bool drive_well_formed(drive);
-stepped drive_step(drive, const uint8_t *bytes, size_t length);
-found event_read(const uint8_t *bytes, size_t length);
-uint8_t event_write(uint8_t *buffer, size_t length, uint8_t kind, uint8_t a, uint8_t b, uint8_t c);
+drive damper_fresh(void);
+bool damper_well_formed(drive);
+stepped damper_step(drive, const uint8_t *bytes, size_t length);
+found damper_read(const uint8_t *bytes, size_t length);
+uint8_t damper_write(uint8_t *buffer, size_t length, uint8_t kind, uint8_t a, uint8_t b, uint8_t c);
 
 /* An event record of 0 to 7 bytes. */
 typedef struct {
@@ -106,8 +106,8 @@ static bool compare(const drive *before, const event *e)
 {
     stepped plain = {.drive = *before};
     plain_step(&plain.drive, e->bytes, e->length, &plain.word, &plain.code);
-    stepped proved = drive_step(*before, e->bytes, e->length);
-    bool fits = drive_well_formed(*before);
+    stepped proved = damper_step(*before, e->bytes, e->length);
+    bool fits = damper_well_formed(*before);
 
     if (fits != plain_well_formed(before))
         differ("well-formedness differs", before, e, &proved, &plain);
@@ -180,7 +180,7 @@ static void every_flag_byte(drive d)
 
 static void flag_bytes(void)
 {
-    drive d = drive_fresh(), plain;
+    drive d = damper_fresh(), plain;
     plain_fresh(&plain);
     if (!same(&d, &plain)) {
         printf("records: the fresh drives differ\n");
@@ -190,7 +190,7 @@ static void flag_bytes(void)
     for (int i = 0; i < 100; i++) {
         event e = random_event();
         compare(&d, &e);
-        d = drive_step(d, e.bytes, e.length).drive;
+        d = damper_step(d, e.bytes, e.length).drive;
         every_flag_byte(d);
     }
     /* All five set, with values beside them; then the values alone. */
@@ -218,11 +218,11 @@ static void random_bytes(int records)
 /* Records met on a list of events, each with one byte changed. */
 static void one_byte_changed(int records)
 {
-    drive met = drive_fresh();
+    drive met = damper_fresh();
     for (int i = 0; i < records; i++) {
         event e = random_event();
         compare(&met, &e);
-        met = drive_step(met, e.bytes, e.length).drive;
+        met = damper_step(met, e.bytes, e.length).drive;
 
         uint8_t bytes[sizeof(drive)];
         memcpy(bytes, &met, sizeof bytes);
@@ -241,9 +241,9 @@ static void written_events(int events)
     for (int i = 0; i < events; i++) {
         event e = random_event();
         uint8_t *b = e.bytes, buffer[6] = {0};
-        uint8_t refusal = event_write(buffer, sizeof buffer, b[2], b[3], b[4], b[5]);
+        uint8_t refusal = damper_write(buffer, sizeof buffer, b[2], b[3], b[4], b[5]);
         uint8_t due[6] = {0x5A, 0xC3, b[2], b[3], b[4], b[5]};
-        found f = event_read(due, sizeof due);
+        found f = damper_read(due, sizeof due);
         bool agree = refusal == f.refusal;
         if (refusal == 0)
             agree = agree && !memcmp(buffer, due, 6) && f.kind == b[2] && f.a == b[3] && f.b == b[4] && f.c == b[5];

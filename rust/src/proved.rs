@@ -29,12 +29,12 @@ struct Replayed {
 }
 
 extern "C" {
-    fn drive_fresh() -> Record;
-    fn drive_well_formed(drive: Record) -> bool;
-    fn drive_step(drive: Record, bytes: *const u8, length: usize) -> Stepped;
-    fn event_read(bytes: *const u8, length: usize) -> Found;
-    fn event_write(buffer: *mut u8, length: usize, kind: u8, a: u8, b: u8, c: u8) -> u8;
-    fn drive_replay(
+    fn damper_fresh() -> Record;
+    fn damper_well_formed(drive: Record) -> bool;
+    fn damper_step(drive: Record, bytes: *const u8, length: usize) -> Stepped;
+    fn damper_read(bytes: *const u8, length: usize) -> Found;
+    fn damper_write(buffer: *mut u8, length: usize, kind: u8, a: u8, b: u8, c: u8) -> u8;
+    fn damper_replay(
         drive: Record,
         bytes: *const u8,
         length: usize,
@@ -85,7 +85,7 @@ impl Proved {
     ) -> (Record, usize) {
         // SAFETY: each pointer goes with the length of its slice.
         let replayed = unsafe {
-            drive_replay(
+            damper_replay(
                 drive,
                 bytes.as_ptr(),
                 bytes.len(),
@@ -115,23 +115,23 @@ pub fn answer(word: u8, code: u32) -> Answer {
 impl Subject for Proved {
     fn fresh(&self) -> Record {
         // SAFETY: it takes nothing.
-        unsafe { drive_fresh() }
+        unsafe { damper_fresh() }
     }
 
     fn step(&self, record: &Record, bytes: &[u8]) -> (Answer, Record) {
         // SAFETY: the pointer goes with the length of its slice.
-        let stepped = unsafe { drive_step(*record, bytes.as_ptr(), bytes.len()) };
+        let stepped = unsafe { damper_step(*record, bytes.as_ptr(), bytes.len()) };
         (answer(stepped.word, stepped.code), stepped.drive)
     }
 
     fn well_formed(&self, record: &Record) -> bool {
         // SAFETY: the record passes by value.
-        unsafe { drive_well_formed(*record) }
+        unsafe { damper_well_formed(*record) }
     }
 
     fn read(&self, bytes: &[u8]) -> Result<(u8, u8, u8, u8), u8> {
         // SAFETY: the pointer goes with the length of its slice.
-        let found = unsafe { event_read(bytes.as_ptr(), bytes.len()) };
+        let found = unsafe { damper_read(bytes.as_ptr(), bytes.len()) };
         match found.refusal {
             0 => Ok((found.kind, found.a, found.b, found.c)),
             number => Err(number),
@@ -140,6 +140,6 @@ impl Subject for Proved {
 
     fn write(&self, buffer: &mut [u8], kind: u8, a: u8, b: u8, c: u8) -> u8 {
         // SAFETY: the pointer goes with the length of its slice.
-        unsafe { event_write(buffer.as_mut_ptr(), buffer.len(), kind, a, b, c) }
+        unsafe { damper_write(buffer.as_mut_ptr(), buffer.len(), kind, a, b, c) }
     }
 }
