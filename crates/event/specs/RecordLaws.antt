@@ -51,3 +51,15 @@ records-append (suc k) (a ∷ b ∷ c ∷ d ∷ []) t h = absurd (omega arith)
 records-append (suc k) (a ∷ b ∷ c ∷ d ∷ e ∷ []) t h = absurd (omega arith)
 records-append (suc k) (a ∷ b ∷ c ∷ d ∷ e ∷ f ∷ s) t h =
     ap (λ (l : List (List ℕ)). (a ∷ b ∷ c ∷ d ∷ e ∷ f ∷ []) ∷ l) (records-append k s t (omega arith))
+
+-- six bytes make one record at most
+pub records-fit : (k : ℕ) (s : List ℕ) → length s ≤ 6 * k → length (recordsOf s) ≤ k
+unfolding recordsOf
+records-fit k [] h = omega arith
+records-fit zero (a ∷ s) h = absurd (omega arith)
+records-fit (suc k) (a ∷ []) h = omega arith
+records-fit (suc k) (a ∷ b ∷ []) h = omega arith
+records-fit (suc k) (a ∷ b ∷ c ∷ []) h = omega arith
+records-fit (suc k) (a ∷ b ∷ c ∷ d ∷ []) h = omega arith
+records-fit (suc k) (a ∷ b ∷ c ∷ d ∷ e ∷ []) h = omega arith
+records-fit (suc k) (a ∷ b ∷ c ∷ d ∷ e ∷ f ∷ s) h = let r = records-fit k s (omega arith) in omega arith

@@ -2,3 +2,5 @@
 pub mod Page
 pub mod Laws
 pub mod Pieces
+pub mod Session
+pub mod SessionLaws

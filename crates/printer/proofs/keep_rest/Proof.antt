@@ -8,8 +8,8 @@ use native.Mathlib.Omega.{arith}
 use borrow.Author.Needs.{needs}
 use lib.ListN.{length, getD, set, take, drop, length-set, length-drop, take-append-drop}
 use lib.Seq.{take-suc, take-suc-set, drop-set-lt, drop-drop, getD-drop}
-use Rattle.drive.proofs.keep_rest.Statement.{statement}
-use Rattle.drive.proofs.keep_rest.Tie as tie
+use Rattle.printer.proofs.keep_rest.Statement.{statement}
+use Rattle.printer.proofs.keep_rest.Tie as tie
 
 -- one more byte
 same-byte : (l₀ l : List ℕ) (from i : ℕ) → drop i l ≡ drop i l₀ → getD l (from + i) 0 ≡ getD (drop from l₀) i 0
