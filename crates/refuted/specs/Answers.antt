@@ -1,0 +1,68 @@
+-- Demand 2 refuses these drives, each by an answer that is not that of document 01's drive. First 01's idlers; then those that only
+-- demand 2 refuses: of an answer the claim takes the report and the number of the refusal, and looks at nothing else.
+use mathlib.Core.Path.{_≡_, refl, sym, ap, _∙_}
+use mathlib.Core.Bool.{Bool, true, not, _&&_, false≢true}
+use mathlib.Core.List.{List, [], _∷_}
+use Prim.Native.Nat.{ℕ}
+use lib.Dec.{eqb}
+use borrow.Author.Tests.{eq-eqb, not-true}
+use Rattle.numbers.specs.Laws.{and-intro}
+use Rattle.answer.specs.declared.Answer.{Answer}
+use Rattle.answer.specs.Answer.{wordOf, codeOf}
+use Rattle.damper.specs.declared.Drive.{Drive}
+use Rattle.damper.specs.declared.Outcome.{Outcome}
+use Rattle.damper.specs.Record.{freshDrive}
+use Rattle.damper.specs.Step.{stepOf}
+use Rattle.damper.specs.Carry.{Step, outcomes, driveAfter}
+use Rattle.refuted.specs.Events.{tick, setpoint, readPosition, readRate, direction, rate}
+use Rattle.refuted.specs.Closed.{computation, Each, each}
+use Rattle.refuted.specs.Wrong as W
+
+-- a wrong drive, the event records that a fresh drive gets before, and the one that is answered wrongly
+pub record Row : Type 0 where
+  pub step : Step
+  pub before : List (List ℕ)
+  pub bytes : List ℕ
+
+abbrev pub row : Step → List (List ℕ) → List ℕ → Row
+row f l s = record { step = f; before = l; bytes = s }
+
+abbrev pub table : List Row
+table =
+    row W.refusesAll [] tick
+    ∷ row W.neverMoves (setpoint 255 ∷ []) tick
+    ∷ row W.idlesLater (setpoint 255 ∷ tick ∷ []) tick
+    ∷ row W.answersAlike [] readPosition
+    -- not seen by the claim
+    ∷ row W.readsAlike [] readPosition
+    ∷ row W.readsPercentZero (rate 255 ∷ setpoint 255 ∷ tick ∷ []) readPosition
+    ∷ row W.readsStatusZero [] readPosition
+    ∷ row W.readsNextRow [] readRate
+    ∷ row W.motorNotExchanged (direction 1 ∷ setpoint 255 ∷ []) tick
+    ∷ []
+
+-- the drive that the records before leave
+abbrev pub driveOf : List (List ℕ) → Drive
+driveOf l = driveAfter freshDrive (outcomes stepOf freshDrive l)
+
+abbrev pub Differs : Row → Type 0
+Differs r = r .step (driveOf (r .before)) (r .bytes) ≡ stepOf (driveOf (r .before)) (r .bytes) → ⊥
+
+abbrev same : Answer → Answer → Bool
+same a b = eqb (wordOf a) (wordOf b) && eqb (codeOf a) (codeOf b)
+
+differs-by : (o p : Outcome) → not (same (o .answer) (p .answer)) ≡ true → o ≡ p → ⊥
+differs-by o p q e =
+    let a = ap (λ (x : Outcome). wordOf (x .answer)) e in
+    let b = ap (λ (x : Outcome). codeOf (x .answer)) e in
+    false≢true (sym (not-true _ q) ∙ and-intro (eq-eqb _ _ a) (eq-eqb _ _ b))
+
+-- Each answers its record otherwise than document 01's drive.
+pub differs : Each Differs table
+unfolding computation
+differs =
+    each Differs
+    (λ r. not (same (r .step (driveOf (r .before)) (r .bytes) .answer) (stepOf (driveOf (r .before)) (r .bytes) .answer)))
+    (λ r. differs-by (r .step (driveOf (r .before)) (r .bytes)) (stepOf (driveOf (r .before)) (r .bytes)))
+    table
+    refl
