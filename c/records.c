@@ -9,45 +9,6 @@
 #include <stdlib.h>
 #include <string.h>
 
-#define AT(field, offset) _Static_assert(offsetof(drive, field) == (offset), #field)
-_Static_assert(sizeof(drive) == 44, "drive");
-AT(position, 0);
-AT(params, 2);
-AT(commands, 26);
-AT(commands.fault, 26);
-AT(commands.forcing, 27);
-AT(commands.hand, 28);
-AT(commands.handpos, 29);
-AT(commands.tool, 30);
-AT(commands.toolpos, 31);
-AT(commands.stored, 32);
-AT(commands.setpoint, 33);
-AT(age, 34);
-AT(run, 36);
-AT(run.kind, 36);
-AT(run.left, 37);
-AT(since, 38);
-AT(last, 40);
-AT(last.reported, 40);
-AT(last.position, 41);
-AT(last.status, 42);
-
-typedef struct {
-    drive drive;
-    uint8_t word;
-    uint32_t code;
-} stepped;
-
-typedef struct {
-    uint8_t refusal, kind, a, b, c;
-} found;
-
-drive damper_fresh(void);
-bool damper_well_formed(drive);
-stepped damper_step(drive, const uint8_t *bytes, size_t length);
-found damper_read(const uint8_t *bytes, size_t length);
-uint8_t damper_write(uint8_t *buffer, size_t length, uint8_t kind, uint8_t a, uint8_t b, uint8_t c);
-
 /* An event record of 0 to 7 bytes. */
 typedef struct {
     uint8_t bytes[7];
@@ -81,7 +42,8 @@ static void show(const char *name, const void *start, size_t length)
     printf("\n");
 }
 
-static void differ(const char *what, const drive *before, const event *e, const stepped *proved, const stepped *plain)
+static void differ(const char *what, const damper_drive *before, const event *e, const damper_stepped *proved,
+                   const damper_stepped *plain)
 {
     printf("records: %s\n", what);
     show("record", before, sizeof *before);
@@ -94,7 +56,7 @@ static void differ(const char *what, const drive *before, const event *e, const 
 }
 
 /* The groups have bytes only, or 16-bit numbers only, so no gap lies inside one. */
-static bool same(const drive *x, const drive *y)
+static bool same(const damper_drive *x, const damper_drive *y)
 {
     return x->position == y->position && !memcmp(x->params, y->params, sizeof x->params) &&
            !memcmp(&x->commands, &y->commands, sizeof x->commands) && x->age == y->age &&
@@ -102,11 +64,11 @@ static bool same(const drive *x, const drive *y)
 }
 
 /* Gives whether the event was carried out. */
-static bool compare(const drive *before, const event *e)
+static bool compare(const damper_drive *before, const event *e)
 {
-    stepped plain = {.drive = *before};
+    damper_stepped plain = {.drive = *before};
     plain_step(&plain.drive, e->bytes, e->length, &plain.word, &plain.code);
-    stepped proved = damper_step(*before, e->bytes, e->length);
+    damper_stepped proved = damper_step(*before, e->bytes, e->length);
     bool fits = damper_well_formed(*before);
 
     if (fits != plain_well_formed(before))
@@ -115,41 +77,41 @@ static bool compare(const drive *before, const event *e)
         differ("the answers differ", before, e, &proved, &plain);
     if (!same(&proved.drive, &plain.drive))
         differ("the records after differ", before, e, &proved, &plain);
-    if (proved.word == 0 && !same(&proved.drive, before))
+    if (proved.word == DAMPER_WORD_NO && !same(&proved.drive, before))
         differ("refused, and the record changes", before, e, &proved, &plain);
-    if (fits == (proved.word == 0 && proved.code == 1))
+    if (fits == (damper_answer_refusal(proved.word, proved.code) == DAMPER_REFUSAL_RECORD))
         differ("well formed and refused by 1, or neither", before, e, &proved, &plain);
     steps++;
     well_formed += fits;
-    carried_out += proved.word != 0;
-    return proved.word != 0;
+    carried_out += proved.word != DAMPER_WORD_NO;
+    return proved.word != DAMPER_WORD_NO;
 }
 
 static event event_of(uint8_t kind, uint8_t a, uint8_t b, uint8_t c)
 {
-    return (event){{0x5A, 0xC3, kind, a, b, c}, 6};
+    return (event){{DAMPER_MARK_0, DAMPER_MARK_1, kind, a, b, c}, DAMPER_EVENT_LENGTH};
 }
 
 /* Mostly one that is carried out; now and then one byte, or the length, is any. */
 static event random_event(void)
 {
-    static const uint8_t numbers[12] = {111, 115, 116, 117, 120, 121, 122, 201, 202, 203, 204, 205};
-    uint8_t number = numbers[random_below(12)], any = random_byte(), percent = (uint8_t)random_below(101);
+    uint8_t number = damper_parameters[random_below(DAMPER_PARAMETERS)].number;
+    uint8_t any = random_byte(), percent = (uint8_t)random_below(101);
     uint8_t flag = (uint8_t)random_below(2), command = (uint8_t)random_below(3);
     event e;
     switch (random_below(16)) {
-    case 0: e = event_of(2, any, 0, 0); break;
-    case 1: e = event_of(3, 51, percent, command); break;
-    case 2: e = event_of(4, (uint8_t)random_below(4), 0, 0); break;
-    case 3: e = event_of(5, flag, any, 0); break;
-    case 4: e = event_of(6, flag, 0, 0); break;
-    case 5: e = event_of(7, flag, 0, 0); break;
-    case 6: e = event_of(8, number, 0, (uint8_t)random_below(4)); break;
-    case 7: e = event_of(8, number, 0, any); break;
-    case 8: e = event_of(9, 0, 0, 0); break;
-    case 9: e = event_of(10, 0, 0, 0); break;
-    case 10: e = event_of(11, number, 0, 0); break;
-    default: e = event_of(1, 0, 0, 0); break;
+    case 0: e = event_of(DAMPER_KIND_SETPOINT, any, 0, 0); break;
+    case 1: e = event_of(DAMPER_KIND_LTE_SETPOINT, DAMPER_LTE_PROPERTY(1), percent, command); break;
+    case 2: e = event_of(DAMPER_KIND_FORCING, (uint8_t)random_below(4), 0, 0); break;
+    case 3: e = event_of(DAMPER_KIND_HAND, flag, any, 0); break;
+    case 4: e = event_of(DAMPER_KIND_CALIBRATION, flag, 0, 0); break;
+    case 5: e = event_of(DAMPER_KIND_FAULT, flag, 0, 0); break;
+    case 6: e = event_of(DAMPER_KIND_WRITE, number, 0, (uint8_t)random_below(4)); break;
+    case 7: e = event_of(DAMPER_KIND_WRITE, number, 0, any); break;
+    case 8: e = event_of(DAMPER_KIND_RESTART, 0, 0, 0); break;
+    case 9: e = event_of(DAMPER_KIND_READ_POSITION, 0, 0, 0); break;
+    case 10: e = event_of(DAMPER_KIND_READ_PARAMETER, number, 0, 0); break;
+    default: e = event_of(DAMPER_KIND_TICK, 0, 0, 0); break;
     }
     if (random_below(16) == 0)
         e.bytes[random_below(6)] = any;
@@ -159,10 +121,11 @@ static event random_event(void)
 }
 
 /* Each value of each flag of a record, with a tick, a setpoint, a read and a restart. */
-static void every_flag_byte(drive d)
+static void every_flag_byte(damper_drive d)
 {
     uint8_t *flags[5] = {&d.commands.fault, &d.commands.hand, &d.commands.tool, &d.commands.stored, &d.last.reported};
-    event events[4] = {event_of(1, 0, 0, 0), event_of(2, 128, 0, 0), event_of(10, 0, 0, 0), event_of(9, 0, 0, 0)};
+    event events[4] = {event_of(DAMPER_KIND_TICK, 0, 0, 0), event_of(DAMPER_KIND_SETPOINT, 128, 0, 0),
+                       event_of(DAMPER_KIND_READ_POSITION, 0, 0, 0), event_of(DAMPER_KIND_RESTART, 0, 0, 0)};
     for (int i = 0; i < 5; i++) {
         uint8_t kept = *flags[i];
         for (int value = 0; value < 256; value++) {
@@ -180,7 +143,7 @@ static void every_flag_byte(drive d)
 
 static void flag_bytes(void)
 {
-    drive d = damper_fresh(), plain;
+    damper_drive d = damper_fresh(), plain;
     plain_fresh(&plain);
     if (!same(&d, &plain)) {
         printf("records: the fresh drives differ\n");
@@ -205,10 +168,10 @@ static void flag_bytes(void)
 static void random_bytes(int records)
 {
     for (int i = 0; i < records; i++) {
-        uint8_t bytes[sizeof(drive)];
+        uint8_t bytes[sizeof(damper_drive)];
         for (size_t k = 0; k < sizeof bytes; k++)
             bytes[k] = random_byte();
-        drive d;
+        damper_drive d;
         memcpy(&d, bytes, sizeof d);
         event e = random_event();
         compare(&d, &e);
@@ -218,17 +181,17 @@ static void random_bytes(int records)
 /* Records met on a list of events, each with one byte changed. */
 static void one_byte_changed(int records)
 {
-    drive met = damper_fresh();
+    damper_drive met = damper_fresh();
     for (int i = 0; i < records; i++) {
         event e = random_event();
         compare(&met, &e);
         met = damper_step(met, e.bytes, e.length).drive;
 
-        uint8_t bytes[sizeof(drive)];
+        uint8_t bytes[sizeof(damper_drive)];
         memcpy(bytes, &met, sizeof bytes);
         size_t place = random_below(sizeof bytes);
         bytes[place] = random_byte();
-        drive d;
+        damper_drive d;
         memcpy(&d, bytes, sizeof d);
         e = random_event();
         compare(&d, &e);
@@ -242,8 +205,8 @@ static void written_events(int events)
         event e = random_event();
         uint8_t *b = e.bytes, buffer[6] = {0};
         uint8_t refusal = damper_write(buffer, sizeof buffer, b[2], b[3], b[4], b[5]);
-        uint8_t due[6] = {0x5A, 0xC3, b[2], b[3], b[4], b[5]};
-        found f = damper_read(due, sizeof due);
+        uint8_t due[6] = {DAMPER_MARK_0, DAMPER_MARK_1, b[2], b[3], b[4], b[5]};
+        damper_event f = damper_read(due, sizeof due);
         bool agree = refusal == f.refusal;
         if (refusal == 0)
             agree = agree && !memcmp(buffer, due, 6) && f.kind == b[2] && f.a == b[3] && f.b == b[4] && f.c == b[5];

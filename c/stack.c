@@ -1,0 +1,116 @@
+/*
+ * The stack that each call takes below its caller's frame, return address and red zone included. The calls run on a stack
+ * of their own that is painted before: the deepest byte that has lost its paint was written to. Standard input has the
+ * event records to call with. For gcc and clang on x86-64.
+ */
+#include "damper.h"
+
+#include <stdio.h>
+#include <stdlib.h>
+#include <string.h>
+
+#define ROOM 20000
+
+static _Alignas(16) uint8_t stack[8192];
+
+/* Runs a function on the painted stack. */
+static void on_stack(void (*run)(void))
+{
+    __asm__ volatile("mov %%rsp, %%rbx\n\t"
+                     "mov %0, %%rsp\n\t"
+                     "call *%1\n\t"
+                     "mov %%rbx, %%rsp"
+                     :
+                     : "r"(stack + sizeof stack), "r"(run)
+                     : "rax", "rbx", "rcx", "rdx", "rsi", "rdi", "r8", "r9", "r10", "r11", "xmm0", "xmm1", "xmm2", "xmm3",
+                       "xmm4", "xmm5", "xmm6", "xmm7", "xmm8", "xmm9", "xmm10", "xmm11", "xmm12", "xmm13", "xmm14",
+                       "xmm15", "cc", "memory");
+}
+
+/* In place of a function: gives the address of its result, as the ABI wants it, and takes no stack but the return address. */
+void nothing(void);
+__asm__(".text\n.globl nothing\nnothing:\n\tmov %rdi, %rax\n\tret\n");
+
+/* The functions as they are called, each the archive's or `nothing`. */
+static damper_drive (*volatile fresh)(void);
+static bool (*volatile well_formed)(damper_drive);
+static damper_stepped (*volatile step)(damper_drive, const uint8_t *, size_t);
+static damper_event (*volatile read_event)(const uint8_t *, size_t);
+static uint8_t (*volatile write_event)(uint8_t *, size_t, uint8_t, uint8_t, uint8_t, uint8_t);
+static damper_replayed (*volatile replay)(damper_drive, const uint8_t *, size_t, uint8_t *, size_t, uint32_t *, size_t);
+
+static damper_drive drive;
+static damper_stepped stepped;
+static damper_event found;
+static damper_replayed replayed;
+static bool formed;
+static uint8_t events[ROOM][DAMPER_EVENT_LENGTH], *event, buffer[DAMPER_EVENT_LENGTH], written, words[ROOM];
+static uint32_t codes[ROOM];
+static size_t records;
+
+static void call_fresh(void) { drive = fresh(); }
+static void call_well_formed(void) { formed = well_formed(drive); }
+static void call_step(void) { stepped = step(drive, event, DAMPER_EVENT_LENGTH); }
+static void call_read(void) { found = read_event(event, DAMPER_EVENT_LENGTH); }
+static void call_write(void) { written = write_event(buffer, sizeof buffer, event[2], event[3], event[4], event[5]); }
+static void call_replay(void) { replayed = replay(drive, events[0], records * DAMPER_EVENT_LENGTH, words, ROOM, codes, ROOM); }
+
+#define POINT(pointer, function) pointer = archive ? function : (__typeof__(&function))nothing
+
+static void point(bool archive)
+{
+    POINT(fresh, damper_fresh);
+    POINT(well_formed, damper_well_formed);
+    POINT(step, damper_step);
+    POINT(read_event, damper_read);
+    POINT(write_event, damper_write);
+    POINT(replay, damper_replay);
+}
+
+/* The bytes from the deepest one without paint on, after calls over the list of events from a fresh drive. */
+static size_t depth(void (*call)(void), bool archive, size_t calls, uint8_t paint)
+{
+    point(archive);
+    memset(stack, paint, sizeof stack);
+    drive = damper_fresh();
+    for (size_t i = 0; i < calls; i++) {
+        event = events[i];
+        on_stack(call);
+        drive = damper_step(drive, event, DAMPER_EVENT_LENGTH).drive;
+    }
+    size_t painted = 0;
+    while (painted < sizeof stack && stack[painted] == paint)
+        painted++;
+    return sizeof stack - painted;
+}
+
+/* Two paints, since the deepest byte may have the colour of one. */
+static size_t deeper(void (*call)(void), bool archive, size_t calls)
+{
+    size_t x = depth(call, archive, calls, 0x55), y = depth(call, archive, calls, 0xAA);
+    return x > y ? x : y;
+}
+
+static void measure(const char *name, void (*call)(void), size_t calls)
+{
+    size_t taken = deeper(call, true, calls) - deeper(call, false, 1) + sizeof(void *);
+    printf(" %s %zu", name, taken);
+    if (taken > DAMPER_STACK) {
+        printf("\nstack: that is more than DAMPER_STACK\n");
+        exit(1);
+    }
+}
+
+int main(void)
+{
+    records = fread(events, DAMPER_EVENT_LENGTH, ROOM, stdin);
+    printf("bytes of stack, over %zu records:", records);
+    measure("fresh", call_fresh, 1);
+    measure("well_formed", call_well_formed, records);
+    measure("step", call_step, records);
+    measure("read", call_read, records);
+    measure("write", call_write, records);
+    measure("replay", call_replay, 1);
+    printf("; DAMPER_STACK is %d\n", DAMPER_STACK);
+    return 0;
+}

@@ -1,0 +1,433 @@
+/*
+ * The air-damper drive of document 01 (after KNX chapter 7/10/3, block ADA), written and proved in Rattle, for hosts in
+ * C11 and C++ on x86-64 Linux. Link libhost.a for single events, libhost_replay.a for damper_replay, or both.
+ *
+ * A drive is a record of 44 bytes, and the host holds it. The host gives it event records of six bytes, one after the
+ * other: a tick each second, and setpoints, forcing, hand, calibration, faults, parameter writes, restarts and reads as
+ * they come. Each call gives the record after the event, and an answer. At a tick the damper moves toward the target of
+ * whoever commands, and the answer says how its motor turns. Some ticks report position and status; a log of what the
+ * damper did is built from these reports alone.
+ *
+ *     const uint8_t tick[] = {DAMPER_MARK_0, DAMPER_MARK_1, DAMPER_KIND_TICK, 0, 0, 0};
+ *     damper_stepped s = damper_step(drive, tick, sizeof tick);
+ *     drive = s.drive;
+ *     if (damper_is_report(s.word))
+ *         printf("position %u\n", damper_answer_position(s.word, s.code));
+ *
+ * Of every function below holds:
+ *   - A pointer is valid for its length; NULL will do for a length of 0. Bytes that are written to overlap no others that
+ *     the call is lent. Apart from that nothing is asked: any bytes are a record, any bytes of any length an event record.
+ *   - It returns, and what it gives depends on its arguments alone. It has no state, allocates nothing, calls nothing
+ *     outside its archive and writes nothing but its result and the bytes lent for it, so any thread and any signal handler
+ *     may call it at any time.
+ *   - It takes at most DAMPER_STACK bytes of stack below the caller's frame, the red zone of the x86-64 ABI among them.
+ *
+ * Numbers are document 01's. A position is 0 to 255, where 255 is 100 %; a time is in ticks of a second.
+ */
+#ifndef DAMPER_H
+#define DAMPER_H
+
+#include <stdbool.h>
+#include <stddef.h>
+#include <stdint.h>
+
+#ifdef __cplusplus
+extern "C" {
+#endif
+
+/* A number to reckon with is a macro, one of a list an enumeration: C++ compilers object to reckoning with the latter. */
+#define DAMPER_EVENT_LENGTH 6 /* bytes of an event record */
+#define DAMPER_PARAMETERS 12  /* how many there are */
+#define DAMPER_STACK 512      /* bytes of stack that a call takes at most */
+
+/* An event record: these two bytes, the kind, then data bytes a, b and c, of which unused ones are 0. */
+#define DAMPER_MARK_0 0x5A
+#define DAMPER_MARK_1 0xC3
+
+/* The kinds of event. */
+enum damper_kind {
+    DAMPER_KIND_TICK = 1,            /* one second passes */
+    DAMPER_KIND_SETPOINT = 2,        /* bus setpoint; a: position */
+    DAMPER_KIND_LTE_SETPOINT = 3,    /* a: property, b: percent, 0 to 100, c: command; a release takes any b */
+    DAMPER_KIND_FORCING = 4,         /* a: forcing, 0 to 3 */
+    DAMPER_KIND_HAND = 5,            /* a: 1 on, with b: position; 0 off, with any b */
+    DAMPER_KIND_CALIBRATION = 6,     /* a: 0 or 1, which both start it */
+    DAMPER_KIND_FAULT = 7,           /* a: 1 present, 0 gone */
+    DAMPER_KIND_WRITE = 8,           /* parameter write; a: number, value 256 * b + c */
+    DAMPER_KIND_RESTART = 9,         /* after power loss: keeps position and parameters, clears all else */
+    DAMPER_KIND_READ_POSITION = 10,  /* position, percent and status; changes nothing */
+    DAMPER_KIND_READ_PARAMETER = 11  /* a: number; changes nothing */
+};
+
+/* Byte a of DAMPER_KIND_LTE_SETPOINT: the property that belongs to DamperMode 1 to 4, which is 51 to 54. */
+#define DAMPER_LTE_PROPERTY(mode) (50 + (mode))
+
+/* Byte c of DAMPER_KIND_LTE_SETPOINT. */
+enum damper_lte {
+    DAMPER_LTE_WRITE = 0,    /* a bus setpoint; does not end an override */
+    DAMPER_LTE_OVERRIDE = 1, /* the tool commands */
+    DAMPER_LTE_RELEASE = 2   /* the tool commands no longer */
+};
+
+/* Byte a of DAMPER_KIND_FORCING, and the record's forcing. 1 is none as well. */
+enum damper_forcing {
+    DAMPER_FORCING_NONE = 0,
+    DAMPER_FORCING_TO_0 = 2,
+    DAMPER_FORCING_TO_255 = 3
+};
+
+/* The places of the parameters in damper_drive.params and damper_parameters. */
+enum damper_place {
+    DAMPER_PLACE_MODE = 0,
+    DAMPER_PLACE_OPEN_CLOSE_DIRECTION = 1,
+    DAMPER_PLACE_ACT_POS_COV = 2,
+    DAMPER_PLACE_MIN_REP_TIME = 3,
+    DAMPER_PLACE_BACKUP_MODE = 4,
+    DAMPER_PLACE_BACKUP_VALUE = 5,
+    DAMPER_PLACE_START_SYNCHRONIZATION = 6,
+    DAMPER_PLACE_TIMEOUT = 7,
+    DAMPER_PLACE_REP_PER = 8,
+    DAMPER_PLACE_RATE = 9,
+    DAMPER_PLACE_LOW = 10,
+    DAMPER_PLACE_HIGH = 11
+};
+
+/* The numbers of the parameters, by which events name them: up to 122 the properties of KNX chapter 7/10/3. */
+enum damper_number {
+    DAMPER_NUMBER_MODE = 111,                  /* DamperMode: which LTE property commands */
+    DAMPER_NUMBER_OPEN_CLOSE_DIRECTION = 115,  /* 1 exchanges the ways that the motor turns */
+    DAMPER_NUMBER_ACT_POS_COV = 116,           /* %: the change of position that is reported */
+    DAMPER_NUMBER_MIN_REP_TIME = 117,          /* s: from one report to the next, at least */
+    DAMPER_NUMBER_BACKUP_MODE = 120,           /* backup leads to 0: BackupValue, 1: the last bus setpoint */
+    DAMPER_NUMBER_BACKUP_VALUE = 121,          /* % */
+    DAMPER_NUMBER_START_SYNCHRONIZATION = 122, /* the run that a restart starts: 0 none, 1 toward 0, 2 toward 255 */
+    DAMPER_NUMBER_TIMEOUT = 201,               /* s: how long a bus setpoint commands */
+    DAMPER_NUMBER_REP_PER = 202,               /* s: after which a report goes out without a change */
+    DAMPER_NUMBER_RATE = 203,                  /* position units a tick */
+    DAMPER_NUMBER_LOW = 204,                   /* position: where hand, tool, bus and backup lead, at least */
+    DAMPER_NUMBER_HIGH = 205                   /* position: and at most; never below Low */
+};
+
+/* A row of the parameter table. Values are in the unit said above. */
+typedef struct damper_parameter {
+    uint8_t number; /* enum damper_number */
+    uint16_t least; /* a write of less is refused by 10 */
+    uint16_t most;  /* and so is one of more */
+    uint16_t fresh; /* the value in a fresh drive */
+} damper_parameter;
+
+/* The parameter table, by place: number, least, most, fresh. */
+static const damper_parameter damper_parameters[DAMPER_PARAMETERS] = {
+    {DAMPER_NUMBER_MODE, 1, 4, 1},
+    {DAMPER_NUMBER_OPEN_CLOSE_DIRECTION, 0, 1, 0},
+    {DAMPER_NUMBER_ACT_POS_COV, 1, 100, 1},
+    {DAMPER_NUMBER_MIN_REP_TIME, 1, 3600, 10},
+    {DAMPER_NUMBER_BACKUP_MODE, 0, 1, 0},
+    {DAMPER_NUMBER_BACKUP_VALUE, 0, 100, 0},
+    {DAMPER_NUMBER_START_SYNCHRONIZATION, 0, 2, 0},
+    {DAMPER_NUMBER_TIMEOUT, 1, 7200, 1860},
+    {DAMPER_NUMBER_REP_PER, 1, 7200, 900},
+    {DAMPER_NUMBER_RATE, 1, 255, 5},
+    {DAMPER_NUMBER_LOW, 0, 255, 0},
+    {DAMPER_NUMBER_HIGH, 0, 255, 255}
+};
+
+/* The record's run. A run has K ticks, K being 255 / Rate rounded up. */
+enum damper_run_kind {
+    DAMPER_RUN_NONE = 0,
+    DAMPER_RUN_CALIBRATION = 1, /* toward 0 */
+    DAMPER_RUN_SYNC_CLOSE = 2,  /* toward 0 */
+    DAMPER_RUN_SYNC_OPEN = 3    /* toward 255 */
+};
+
+/* Who commands. Of those that are active the highest rank rules. */
+enum damper_rank {
+    DAMPER_RANK_BACKUP = 0,  /* always active */
+    DAMPER_RANK_BUS = 1,     /* a bus setpoint whose age is at most Timeout */
+    DAMPER_RANK_TOOL = 2,    /* an override */
+    DAMPER_RANK_HAND = 3,
+    DAMPER_RANK_RUN = 4,
+    DAMPER_RANK_FORCING = 5, /* forcing of 2 or 3 */
+    DAMPER_RANK_FAULT = 6    /* the damper stands still */
+};
+
+/* The bits of a status: what is active, and not only what rules. */
+enum damper_status {
+    DAMPER_STATUS_FAULT = 0x01,
+    DAMPER_STATUS_HAND = 0x02,        /* hand or tool */
+    DAMPER_STATUS_CALIBRATION = 0x04,
+    DAMPER_STATUS_SYNC = 0x08,
+    DAMPER_STATUS_FORCED = 0x10,
+    DAMPER_STATUS_NO_BUS = 0x20       /* no bus setpoint, or one older than Timeout */
+};
+
+/* The motor during a tick. */
+enum damper_motor {
+    DAMPER_MOTOR_STILL = 0,
+    DAMPER_MOTOR_FORWARD = 1, /* position rises; under OpenCloseDirection 1 it falls */
+    DAMPER_MOTOR_REVERSE = 2  /* position falls; under OpenCloseDirection 1 it rises */
+};
+
+/* Why an event is turned down: the first that fits. */
+enum damper_refusal {
+    DAMPER_REFUSAL_NONE = 0,
+    DAMPER_REFUSAL_RECORD = 1,      /* the drive record is not well formed */
+    DAMPER_REFUSAL_LENGTH = 2,      /* not exactly six bytes; for damper_write, fewer than six */
+    DAMPER_REFUSAL_MARK = 3,        /* the first two bytes are not the mark */
+    DAMPER_REFUSAL_KIND = 4,        /* the kind is not 1 to 11 */
+    DAMPER_REFUSAL_UNUSED = 5,      /* an unused byte is not 0 */
+    DAMPER_REFUSAL_SELECTOR = 6,    /* a is none of the values that its kind takes */
+    DAMPER_REFUSAL_COMMAND = 7,     /* LTE setpoint: the command exceeds 2 */
+    DAMPER_REFUSAL_PERCENT = 8,     /* LTE setpoint: more than 100 % in a write or override */
+    DAMPER_REFUSAL_PROPERTY = 9,    /* LTE setpoint: not the property of the DamperMode in force */
+    DAMPER_REFUSAL_RANGE = 10,      /* parameter write: the value is out of range */
+    DAMPER_REFUSAL_LIMITS = 11,     /* parameter write: Low would exceed High */
+    DAMPER_REFUSAL_RATE = 12,       /* parameter write: Rate during a run */
+    DAMPER_REFUSAL_CALIBRATION = 13 /* calibration: there is a fault, or forcing of 2 or 3 */
+};
+
+/*
+ * The word of an answer. With it comes a code, whose bytes are these, from the highest on:
+ *
+ *     NO         0, 0, 0, refusal
+ *     OK         0, 0, 0, 0
+ *     PAR        0, 0, the value in two bytes
+ *     AT         0, position, percent, status
+ *     TICK       0, position, rank, motor
+ *     REPORT     position, rank, motor, status
+ */
+enum damper_word {
+    DAMPER_WORD_NO = 0,    /* turned down */
+    DAMPER_WORD_OK = 1,    /* carried out */
+    DAMPER_WORD_PAR = 2,   /* a parameter is read */
+    DAMPER_WORD_AT = 3,    /* the position is read */
+    DAMPER_WORD_TICK = 4,  /* a tick with no report */
+    DAMPER_WORD_REPORT = 5 /* a tick with a report */
+};
+
+/* What the latest commands say. A flag is 0 or 1. A position is as it came, before Low and High, and 0 if its flag is. */
+typedef struct damper_commands {
+    uint8_t fault;    /* flag */
+    uint8_t forcing;  /* 0 to 3, as it came: 0 and 1 none, 2 to position 0, 3 to position 255 */
+    uint8_t hand;     /* flag */
+    uint8_t handpos;  /* position */
+    uint8_t tool;     /* flag: an override */
+    uint8_t toolpos;  /* position */
+    uint8_t stored;   /* flag: there is a bus setpoint, also one too old to command */
+    uint8_t setpoint; /* position */
+} damper_commands;
+
+/* A run. */
+typedef struct damper_run {
+    uint8_t kind; /* enum damper_run_kind */
+    uint8_t left; /* ticks left, 1 to K; 0 with no run */
+} damper_run;
+
+/* The last report. */
+typedef struct damper_report {
+    uint8_t reported; /* flag: there was one since the last restart; if 0, the next two are 0 */
+    uint8_t position; /* as reported */
+    uint8_t status;   /* as reported, bits of enum damper_status; a record may hold any here */
+} damper_report;
+
+/*
+ * The drive record. A host may store its 44 bytes (16-bit numbers have their low byte first) and restore them: any bytes
+ * are a record, and one that is not well formed is refused by 1. Bytes 1 and 43 belong to no field and may hold anything,
+ * so compare records by field, and set these two to 0 in what is stored.
+ */
+typedef struct damper_drive {
+    uint8_t position;                    /* present position, 0 to 255 */
+    uint16_t params[DAMPER_PARAMETERS];  /* values, by place, each in the range of its row; Low at most High */
+    damper_commands commands;
+    uint16_t age;                        /* ticks since the bus setpoint came, stopping at 65,535; 0 with none */
+    damper_run run;                      /* none beside a fault or forcing of 2 or 3 */
+    uint16_t since;                      /* ticks since the last report or restart, stopping at 65,535 */
+    damper_report last;
+} damper_drive;
+
+/* What damper_step gives. */
+typedef struct damper_stepped {
+    damper_drive drive; /* the record after the event; that before it, if the event is turned down */
+    uint8_t word;       /* of the answer, enum damper_word */
+    uint32_t code;      /* of the answer, packed as said at enum damper_word */
+} damper_stepped;
+
+/* What damper_read gives. */
+typedef struct damper_event {
+    uint8_t refusal; /* 0, or a refusal from 2 to 8, and then the other four are 0 */
+    uint8_t kind;    /* enum damper_kind */
+    uint8_t a;       /* data, as said at enum damper_kind */
+    uint8_t b;
+    uint8_t c;
+} damper_event;
+
+/* What damper_replay gives. */
+typedef struct damper_replayed {
+    damper_drive drive; /* the record after the last record that was given to it */
+    size_t count;       /* how many were */
+} damper_replayed;
+
+/*
+ * libhost.a
+ */
+
+/*
+ * The fresh drive: position 0, fresh parameters, nothing else set. Where a damper may stand elsewhere than at 0, a
+ * calibration comes first.
+ */
+damper_drive damper_fresh(void);
+
+/* Whether a record is well formed: its fields are as their comments say. An event leaves it as well formed as it was. */
+bool damper_well_formed(damper_drive drive);
+
+/*
+ * Gives one event record to the drive: the record after it, and the answer. The first of the refusals 1 to 13 that fits
+ * turns it down, and then the record comes back with every field unchanged; so does, by 1, any that is not well formed.
+ */
+damper_stepped damper_step(damper_drive drive, const uint8_t *bytes, size_t length);
+
+/* Reads an event record without giving it to a drive: kind and data, or the first of the refusals 2 to 8 that fits. */
+damper_event damper_read(const uint8_t *bytes, size_t length);
+
+/*
+ * Writes an event record to the first six bytes of the buffer, no others, and gives 0; or gives the first of the refusals
+ * 2 and 4 to 8 that fits, and writes nothing. What is written, damper_read reads back.
+ */
+uint8_t damper_write(uint8_t *buffer, size_t length, uint8_t kind, uint8_t a, uint8_t b, uint8_t c);
+
+/*
+ * libhost_replay.a
+ */
+
+/*
+ * Gives the records in the bytes to the drive, one after the other, as damper_step would: six bytes each, and a shorter
+ * rest as one more, which is refused by 2. It stops where the bytes end or one of the rows is full. The answer to record i
+ * has its word in words[i] and its code in codes[i]; places from the count on are left as they are. The lengths of the rows
+ * count elements.
+ */
+damper_replayed damper_replay(damper_drive drive, const uint8_t *bytes, size_t length, uint8_t *words,
+                              size_t words_length, uint32_t *codes, size_t codes_length);
+
+/*
+ * An answer taken apart. Each function says for which words it holds, and gives 0 for the others.
+ */
+
+/* Whether the event was a tick that was carried out, with a report or without. */
+static inline bool damper_is_tick(uint8_t word)
+{
+    return word == DAMPER_WORD_TICK || word == DAMPER_WORD_REPORT;
+}
+
+/* Whether the event was a tick that reports. */
+static inline bool damper_is_report(uint8_t word)
+{
+    return word == DAMPER_WORD_REPORT;
+}
+
+/* NO: the refusal, 1 to 13. So 0 says that the event was carried out. */
+static inline uint8_t damper_answer_refusal(uint8_t word, uint32_t code)
+{
+    return word == DAMPER_WORD_NO ? (uint8_t)code : 0;
+}
+
+/* PAR: the parameter's value. */
+static inline uint16_t damper_answer_value(uint8_t word, uint32_t code)
+{
+    return word == DAMPER_WORD_PAR ? (uint16_t)code : 0;
+}
+
+/* AT, TICK, REPORT: the position, after the tick. */
+static inline uint8_t damper_answer_position(uint8_t word, uint32_t code)
+{
+    if (word == DAMPER_WORD_AT || word == DAMPER_WORD_TICK)
+        return (uint8_t)(code >> 16);
+    return word == DAMPER_WORD_REPORT ? (uint8_t)(code >> 24) : 0;
+}
+
+/* AT: the position in %, rounded down. */
+static inline uint8_t damper_answer_percent(uint8_t word, uint32_t code)
+{
+    return word == DAMPER_WORD_AT ? (uint8_t)(code >> 8) : 0;
+}
+
+/* AT, REPORT: the status, bits of enum damper_status. */
+static inline uint8_t damper_answer_status(uint8_t word, uint32_t code)
+{
+    return word == DAMPER_WORD_AT || word == DAMPER_WORD_REPORT ? (uint8_t)code : 0;
+}
+
+/* TICK, REPORT: the rank that ruled the move, enum damper_rank. */
+static inline uint8_t damper_answer_rank(uint8_t word, uint32_t code)
+{
+    if (word == DAMPER_WORD_TICK)
+        return (uint8_t)(code >> 8);
+    return word == DAMPER_WORD_REPORT ? (uint8_t)(code >> 16) : 0;
+}
+
+/* TICK, REPORT: the motor, enum damper_motor. */
+static inline uint8_t damper_answer_motor(uint8_t word, uint32_t code)
+{
+    if (word == DAMPER_WORD_TICK)
+        return (uint8_t)code;
+    return word == DAMPER_WORD_REPORT ? (uint8_t)(code >> 8) : 0;
+}
+
+/*
+ * The layout that the archives have.
+ */
+
+#ifdef __cplusplus
+#define DAMPER_ASSERT static_assert
+#else
+#define DAMPER_ASSERT _Static_assert
+#endif
+#define DAMPER_SIZE(type, size) DAMPER_ASSERT(sizeof(type) == (size), "size of " #type)
+#define DAMPER_AT(type, field, offset) DAMPER_ASSERT(offsetof(type, field) == (offset), "offset of " #field " in " #type)
+
+DAMPER_SIZE(damper_commands, 8);
+DAMPER_SIZE(damper_run, 2);
+DAMPER_SIZE(damper_report, 3);
+DAMPER_SIZE(damper_drive, 44);
+DAMPER_AT(damper_drive, position, 0);
+DAMPER_AT(damper_drive, params, 2);
+DAMPER_AT(damper_drive, commands, 26);
+DAMPER_AT(damper_drive, commands.fault, 26);
+DAMPER_AT(damper_drive, commands.forcing, 27);
+DAMPER_AT(damper_drive, commands.hand, 28);
+DAMPER_AT(damper_drive, commands.handpos, 29);
+DAMPER_AT(damper_drive, commands.tool, 30);
+DAMPER_AT(damper_drive, commands.toolpos, 31);
+DAMPER_AT(damper_drive, commands.stored, 32);
+DAMPER_AT(damper_drive, commands.setpoint, 33);
+DAMPER_AT(damper_drive, age, 34);
+DAMPER_AT(damper_drive, run, 36);
+DAMPER_AT(damper_drive, run.kind, 36);
+DAMPER_AT(damper_drive, run.left, 37);
+DAMPER_AT(damper_drive, since, 38);
+DAMPER_AT(damper_drive, last, 40);
+DAMPER_AT(damper_drive, last.reported, 40);
+DAMPER_AT(damper_drive, last.position, 41);
+DAMPER_AT(damper_drive, last.status, 42);
+DAMPER_SIZE(damper_stepped, 52);
+DAMPER_AT(damper_stepped, drive, 0);
+DAMPER_AT(damper_stepped, word, 44);
+DAMPER_AT(damper_stepped, code, 48);
+DAMPER_SIZE(damper_event, 5);
+DAMPER_AT(damper_event, refusal, 0);
+DAMPER_AT(damper_event, kind, 1);
+DAMPER_AT(damper_event, a, 2);
+DAMPER_AT(damper_event, b, 3);
+DAMPER_AT(damper_event, c, 4);
+DAMPER_SIZE(damper_replayed, 56);
+DAMPER_AT(damper_replayed, drive, 0);
+DAMPER_AT(damper_replayed, count, 48);
+
+#undef DAMPER_AT
+#undef DAMPER_SIZE
+#undef DAMPER_ASSERT
+
+#ifdef __cplusplus
+}
+#endif
+
+#endif
