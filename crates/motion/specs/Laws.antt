@@ -1,21 +1,22 @@
--- Laws of percents, of K and of one move.
-use mathlib.Core.Path.{_≡_, sym, _∙_}
-use Prim.Native.Nat.{ℕ, _+_, _-_, _*_, _<_, _≤_, min}
+-- Laws of percents, of K, of Low to High and of one move: what the sentences of document 01 mean by the definitions.
+use mathlib.Core.Path.{_≡_, sym, ap, _∙_}
+use Prim.Native.Nat.{ℕ, suc, _+_, _-_, _*_, _/_, _<_, _≤_, min}
 use native.Mathlib.Omega.{arith}
-use native.Mathlib.Nat.{div-le-of-le-mul, le-div-iff-mul-le, lt-of-not-le}
+use native.Mathlib.Nat.{div-le-of-le-mul, div-lt-iff-lt-mul, div-mul-le-self, le-div-iff-mul-le, lt-of-not-le, lt-suc-self, suc-mul}
 use lib.Dec.{leb, ltb}
 use borrow.Author.Tests.{ltb-true, ltb-false, le-leb, lt-leb}
 use Rattle.numbers.specs.Numbers.{distance}
 use Rattle.numbers.specs.Laws.{cases}
 use Rattle.motion.specs.Motion as M
 
-pub to-position-le : (p : ℕ) → p ≤ 100 → M.toPosition p ≤ 255
+-- "255 × p / 100, rounded down" and "100 × P / 255 rounded down": the greatest number that does not exceed the quotient
+pub to-position-floor : (p : ℕ) → (100 * M.toPosition p ≤ 255 * p) × (255 * p < 100 * (M.toPosition p + 1))
 unfolding M.toPosition
-to-position-le p h = omega arith
+to-position-floor p = (omega arith, omega arith)
 
-pub to-percent-le : (p : ℕ) → p ≤ 255 → M.toPercent p ≤ 100
+pub to-percent-floor : (p : ℕ) → (255 * M.toPercent p ≤ 100 * p) × (100 * p < 255 * (M.toPercent p + 1))
 unfolding M.toPercent
-to-percent-le p h = omega arith
+to-percent-floor p = (omega arith, omega arith)
 
 pub run-ticks-le : (rate : ℕ) → 1 ≤ rate → M.runTicks rate ≤ 255
 unfolding M.runTicks
@@ -24,6 +25,17 @@ run-ticks-le rate h = div-le-of-le-mul rate (omega arith)
 pub run-ticks-pos : (rate : ℕ) → 1 ≤ rate → 1 ≤ M.runTicks rate
 unfolding M.runTicks
 run-ticks-pos rate h = le-div-iff-mul-le h .1 (omega arith)
+
+-- "255 divided by Rate, rounded up": K ticks of Rate lead from one end to the other, one tick fewer does not
+pub run-ticks-ceiling : (rate : ℕ) → 1 ≤ rate → (255 ≤ M.runTicks rate * rate) × ((M.runTicks rate - 1) * rate < 255)
+unfolding M.runTicks
+run-ticks-ceiling rate h =
+    let x = 255 + (rate - 1) in
+    let k = x / rate in
+    let above : x < suc k * rate = div-lt-iff-lt-mul h .0 (lt-suc-self k) in
+    let below : k * rate ≤ x = div-mul-le-self x rate in
+    let less : suc (k - 1) ≡ k = omega (arith, run-ticks-pos rate h) in
+    (omega (arith, suc-mul k rate), omega (arith, suc-mul (k - 1) rate, ap (λ (n : ℕ). n * rate) less))
 
 -- `n` is at most K just where n × rate is below 255 + rate: a test of `n` needs no division
 pub run-ticks-test : (rate n : ℕ) → 1 ≤ rate → ltb (n * rate) (255 + rate) ≡ leb n (M.runTicks rate)
@@ -35,17 +47,35 @@ run-ticks-test rate n h =
     let p : 255 + rate ≤ n * rate = ltb-false _ _ e in
     e ∙ sym (lt-leb _ _ (lt-of-not-le (λ q. let m : n * rate ≤ 255 + (rate - 1) = le-div-iff-mul-le h .0 q in absurd (omega arith)))))
 
--- one move: it goes so far as Rate and the distance allow, and so much less is left to the target
-pub move-distance : (p t r : ℕ) → distance p (M.toward p t r) ≡ min r (distance p t)
-unfolding M.toward
-move-distance p t r =
-    cases (ltb p t)
-    (λ e. let l : p < t = ltb-true p t e in rw e (omega arith))
-    (λ e. let l : t ≤ p = ltb-false p t e in rw e (omega arith))
+-- "brought into Low to High": it lies there, a value that lies there stays, one below becomes Low and one above High
+module _ (low high v : ℕ) where
+  pub within-low : low ≤ M.within low high v
+  within-low = omega arith
 
-pub move-left : (p t r : ℕ) → distance (M.toward p t r) t + min r (distance p t) ≡ distance p t
-unfolding M.toward
-move-left p t r =
-    cases (ltb p t)
-    (λ e. let l : p < t = ltb-true p t e in rw e (omega arith))
-    (λ e. let l : t ≤ p = ltb-false p t e in rw e (omega arith))
+  pub within-high : low ≤ high → M.within low high v ≤ high
+  within-high h = omega arith
+
+  pub within-same : low ≤ v → v ≤ high → M.within low high v ≡ v
+  within-same h k = omega arith
+
+  pub within-below : v ≤ low → M.within low high v ≡ low
+  within-below h = omega arith
+
+  pub within-above : low ≤ high → high ≤ v → M.within low high v ≡ high
+  within-above h k = omega arith
+
+-- "by Rate or the distance, the smaller": so far does a move go, and so much less is left to the target
+module _ (p t r : ℕ) where
+  pub move-distance : distance p (M.toward p t r) ≡ min r (distance p t)
+  unfolding M.toward
+  move-distance =
+      cases (ltb p t)
+      (λ e. let h : p < t = ltb-true _ _ e in rw e (omega arith))
+      (λ e. let h : t ≤ p = ltb-false _ _ e in rw e (omega arith))
+
+  pub move-left : distance (M.toward p t r) t + min r (distance p t) ≡ distance p t
+  unfolding M.toward
+  move-left =
+      cases (ltb p t)
+      (λ e. let h : p < t = ltb-true _ _ e in rw e (omega arith))
+      (λ e. let h : t ≤ p = ltb-false _ _ e in rw e (omega arith))

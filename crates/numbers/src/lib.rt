@@ -9,12 +9,6 @@ pub fn pick8(c: bool, a: u8, b: u8) -> u8
     if c { a } else { b }
 }
 
-pub fn pick_bool(c: bool, a: bool, b: bool) -> bool
-    ensures { λ r. ⌜ r ≡ pick c a b ⌝ }
-{
-    if c { a } else { b }
-}
-
 pub fn pick16(c: bool, a: u16, b: u16) -> u16
     ensures { λ r. ⌜ r ≡ pick c a b ⌝ }
 {

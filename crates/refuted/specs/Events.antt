@@ -1,11 +1,15 @@
 -- The event records of the lists, as bytes.
 use mathlib.Core.List.{List}
-use Prim.Native.Nat.{ℕ}
+use Prim.Native.Nat.{ℕ, _/_, _%_}
 use Rattle.event.specs.Kinds as Kind
 use Rattle.event.specs.Event.{event, bytesOf}
 
 abbrev pub tick : List ℕ
 tick = bytesOf (event Kind.tick 0 0 0)
+
+-- a tick whose unused byte is not 0: refused by 5
+abbrev pub badTick : List ℕ
+badTick = bytesOf (event Kind.tick 1 0 0)
 
 abbrev pub setpoint : ℕ → List ℕ
 setpoint a = bytesOf (event Kind.setpoint a 0 0)
@@ -36,12 +40,15 @@ readPosition = bytesOf (event Kind.readPosition 0 0 0)
 abbrev pub readRate : List ℕ
 readRate = bytesOf (event Kind.readParameter 203 0 0)
 
--- the writes of a parameter, up to 255
+-- the writes of a parameter
 abbrev pub write : ℕ → ℕ → List ℕ
-write n v = bytesOf (event Kind.write n 0 v)
+write n v = bytesOf (event Kind.write n (v / 256) (v % 256))
 
 abbrev pub direction : ℕ → List ℕ
 direction v = write 115 v
+
+abbrev pub actPosCov : ℕ → List ℕ
+actPosCov v = write 116 v
 
 abbrev pub minRepTime : ℕ → List ℕ
 minRepTime v = write 117 v

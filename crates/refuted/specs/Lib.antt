@@ -1,8 +1,10 @@
--- Wrong drives, refused by the claim of demand 3 or by demand 2, and that no sentence of the claim is empty.
+-- Wrong drives, refused by the claim of demand 3 or by demand 2; wordings of its sentences that the right drive refutes; and that no
+-- sentence of the claim is empty.
 pub mod Events
 pub mod Closed
 pub mod Wrong
 pub mod Sentences
 pub mod Refuted
+pub mod Wordings
 pub mod Answers
 pub mod Witnesses

@@ -1,6 +1,6 @@
 -- The claim of demand 3 refuses each wrong drive of a table, by the sentence that the table names.
-use mathlib.Core.Path.{_≡_, refl, sym, _∙_}
-use mathlib.Core.Bool.{true, not, false≢true}
+use mathlib.Core.Path.{_≡_, refl}
+use mathlib.Core.Bool.{true, not}
 use mathlib.Core.List.{List, [], _∷_}
 use Prim.Native.Nat.{ℕ}
 use lib.ListN.{replicate}
@@ -57,7 +57,7 @@ abbrev pub Refuted : Row → Type 0
 Refuted r = let t = traceOf (r .step) (r .list) in (Latest (r .sentence) t → ⊥) × (Claim t → ⊥)
 
 refuted-by : (s : Sentence) (t : Trace) → brokenIn s t ≡ true → (Latest s t → ⊥) × (Claim t → ⊥)
-refuted-by s t q = let fails : Latest s t → ⊥ = λ h. false≢true (sym (latest-law s t h) ∙ q) in (fails, λ c. fails (latest s t c))
+refuted-by s t q = (latest-law s t q, λ c. latest-law s t q (latest s t c))
 
 -- The claim refuses each drive of the table.
 pub refuted : Each Refuted table

@@ -97,11 +97,6 @@ pub places : map Table.placeOf (111 ∷ 115 ∷ 116 ∷ 117 ∷ 120 ∷ 121 ∷ 
 unfolding Table.placeFrom
 places = refl
 
--- each fresh value is in the range of its row
-pub fresh-in : Table.allIn Table.rows Table.freshValues ≡ true
-unfolding Table.allIn
-fresh-in = refl
-
 -- what holds of each row's number holds of every number of the table
 abbrev pub EachNumber : (ℕ → Type 0) → List Row → Type 0
 EachNumber P [] = Unit {0}

@@ -1,0 +1,67 @@
+//! Compiles the plain C drive, and writes the wrong drives and the false wordings of demand 3 that are the
+//! right ones with a piece of their text changed.
+
+#[path = "edits/drives.rs"]
+mod drives;
+#[path = "edits/wordings.rs"]
+mod wordings;
+
+use std::env;
+use std::fmt::Write;
+use std::fs;
+use std::process::Command;
+
+/// A copy of a source file with changes.
+pub struct Edit {
+    pub name: &'static str,
+    /// Old text, which occurs exactly once, and new text.
+    pub changes: &'static [(&'static str, &'static str)],
+}
+
+fn main() {
+    let root = env::var("CARGO_MANIFEST_DIR").unwrap();
+    let out = env::var("OUT_DIR").unwrap();
+    println!("cargo:rerun-if-changed={root}/edits");
+    plain_c(&root, &out);
+    let (model, literal) = (format!("{root}/src/model.rs"), format!("{root}/src/literal.rs"));
+    edited(&model, drives::EDITS, "Wrong", "drive: &NAME::Model", &format!("{out}/drives.rs"));
+    edited(&literal, wordings::EDITS, "Wording", "broken: NAME::broken", &format!("{out}/wordings.rs"));
+}
+
+fn plain_c(root: &str, out: &str) {
+    let (source, object, archive) =
+        (format!("{root}/../../c/plain.c"), format!("{out}/plain.o"), format!("{out}/libplain.a"));
+    call("cc", &["-O3", "-std=c11", "-fPIE", "-c", &source, "-o", &object]);
+    call("ar", &["crs", &archive, &object]);
+    println!("cargo:rustc-link-search=native={out}");
+    println!("cargo:rustc-link-lib=static=plain");
+    println!("cargo:rerun-if-changed={root}/../../c");
+    println!("cargo:rerun-if-changed={root}/../../include");
+}
+
+fn call(program: &str, args: &[&str]) {
+    let status = Command::new(program).args(args).status();
+    assert!(status.is_ok_and(|status| status.success()), "{program} {} failed", args.join(" "));
+}
+
+/// Writes a module for each edit, and `EDITED`, a row of `kind` with an entry for each.
+fn edited(source: &str, edits: &[Edit], kind: &str, field: &str, target: &str) {
+    println!("cargo:rerun-if-changed={source}");
+    let right = fs::read_to_string(source).unwrap();
+    let mut text = format!("pub const EDITED: &[{kind}] = &[\n");
+    for Edit { name, .. } in edits {
+        let field = field.replace("NAME", name);
+        writeln!(text, "{kind} {{ name: {name:?}, {field} }},").unwrap();
+    }
+    text += "];\n";
+    for Edit { name, changes } in edits {
+        let mut wrong = right.clone();
+        for (old, new) in *changes {
+            let times = wrong.matches(old).count();
+            assert!(times == 1, "{name}: `{old}` occurs {times} times in {source}");
+            wrong = wrong.replace(old, new);
+        }
+        writeln!(text, "#[allow(non_snake_case, unused, clippy::all)]\nmod {name} {{\n{wrong}}}").unwrap();
+    }
+    fs::write(target, text).unwrap();
+}

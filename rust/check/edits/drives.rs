@@ -1,0 +1,96 @@
+//! Wrong drives that are `src/model.rs` with a piece of its text changed, each named by what it gets wrong.
+
+use crate::Edit;
+
+const MOVE: &str = "self.position = if target < before { before - way } else { before + way };";
+const MOVE_ONCE: &str = "if self.since == 1 && self.last.is_none() {
+    self.position = if target < before { before - way } else { before + way };
+}";
+const STEP_3: &str = "self.run = self.run.and_then(Run::after_tick);";
+const STATUS: &str = "let status = self.status();";
+const TOO_EARLY: &str = "self.since < self.params.get(Param::MinRepTime)";
+const OVERDUE: &str = "self.since >= self.params.get(Param::RepPer)";
+const IN_TIME: &str = "age <= self.params.get(Param::Timeout)";
+const RUN_LENGTH: &str = "255u16.div_ceil(rate) as u8";
+
+const fn edit(name: &'static str, changes: &'static [(&'static str, &'static str)]) -> Edit {
+    Edit { name, changes }
+}
+
+pub const EDITS: &[Edit] = &[
+    // "Errors that builders of drives make"
+
+    // "Starting the wait anew at each movement"
+    edit(
+        "WaitAnewAtMovement",
+        &[(
+            STEP_3,
+            "if self.position != before {
+                self.since = 0;
+            }
+            self.run = self.run.and_then(Run::after_tick);",
+        )],
+    ),
+    // "Measuring ActPosCOV from the previous tick"
+    edit(
+        "ChangeFromPreviousTick",
+        &[
+            ("self.report_due(status)", "self.report_due(before, status)"),
+            ("fn report_due(&self, status: Status)", "fn report_due(&self, before: u8, status: Status)"),
+            ("self.position.abs_diff(last.position)", "self.position.abs_diff(before)"),
+        ],
+    ),
+    // "Which idlers get caught?"
+
+    // "One that never moves"
+    edit("NeverMoves", &[(MOVE, "")]),
+    // "moves rightly on its first tick and idles later"
+    edit("MovesOnce", &[(MOVE, MOVE_ONCE)]),
+    // "if its reports stop too"
+    edit(
+        "MovesOnceThenSilent",
+        &[(MOVE, MOVE_ONCE), (TOO_EARLY, "self.since != 1 || self.params.get(Param::MinRepTime) != 1")],
+    ),
+    // "One declaring the setpoint stale from the start"
+    edit("StaleFromStart", &[(IN_TIME, "false")]),
+    // "one with an invented since": a report does not clear it.
+    edit("SinceNotCleared", &[("self.since = 0;", "")]),
+    // Wrong by one, at each limit
+
+    // Less than Timeout, for at most Timeout.
+    edit("TimeoutLess", &[(IN_TIME, "age < self.params.get(Param::Timeout)")]),
+    // K rounded down.
+    edit("RunRoundedDown", &[(RUN_LENGTH, "(255 / rate) as u8")]),
+    // K and one more, as far as the record can hold it.
+    edit("RunOneLonger", &[(RUN_LENGTH, "(255u16.div_ceil(rate) + 1).min(255) as u8")]),
+    // More than ActPosCOV, for at least ActPosCOV.
+    edit("ChangeGreater", &[("100 * distance >= 255", "100 * distance > 255")]),
+    // More than RepPer, for at least RepPer. Demand 3 alone admits it.
+    edit("PeriodGreater", &[(OVERDUE, "self.since > self.params.get(Param::RepPer)")]),
+    // More than MinRepTime, for at least MinRepTime.
+    edit("WaitGreater", &[(TOO_EARLY, "self.since <= self.params.get(Param::MinRepTime)")]),
+    // One tick less than MinRepTime.
+    edit("WaitOneLess", &[(TOO_EARLY, "one_more(self.since) < self.params.get(Param::MinRepTime)")]),
+    // The ruling rank by the age before step 1.
+    edit("BusBeforeStep1", &[("if self.in_time(age) =>", "if self.in_time(age - 1) =>")]),
+    // The status as before step 3.
+    edit(
+        "StatusBeforeStep3",
+        &[
+            (STATUS, ""),
+            (STEP_3, "let status = self.status(); self.run = self.run.and_then(Run::after_tick);"),
+        ],
+    ),
+    // Admitted by demand 3 alone, or out of its sight
+
+    // No periodic report.
+    edit("NeverPeriodic", &[(OVERDUE, "false")]),
+    // Age and since go on from 65,535 to 0.
+    edit("CountsWrap", &[("count.saturating_add(1)", "count.wrapping_add(1)")]),
+    // A record with Low above High is taken as well formed.
+    edit("LowAboveHigh", &[("if params.get(Param::Low) > params.get(Param::High) {", "if false {")]),
+    // Any flag byte but 0 is taken as set.
+    edit("AnyFlagSet", &[("1 => Some(true)", "1.. => Some(true)")]),
+    // A flag is its lowest bit.
+    edit("FlagByLowestBit", &[("match byte {", "match byte & 1 {")]),
+];

@@ -1,0 +1,27 @@
+//! A second implementation of the damper drive of document 01, written from the paper alone, and the runs
+//! that set another implementation (a `Subject`) against it.
+//!
+//! The second implementation is `table`, `event` and `model`; it shares with a host's crate `damper` the
+//! types of the drive record and of the answer, and no rule. `check` stands apart: it reads demand 3 off
+//! the list of event records, and `literal` does so word for word.
+
+pub mod bench;
+pub mod cases;
+pub mod catch;
+pub mod check;
+pub mod compare;
+pub mod cover;
+pub mod event;
+pub mod flag;
+pub mod gen;
+pub mod literal;
+pub mod marked;
+pub mod model;
+pub mod plain;
+pub mod proved;
+pub mod replays;
+pub mod subject;
+pub mod suite;
+pub mod table;
+pub mod wordings;
+pub mod wrong;

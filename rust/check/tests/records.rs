@@ -1,0 +1,111 @@
+//! Any bytes are a drive record: the proved drive, and the plain C one, beside the second implementation on
+//! every flag byte and on records of random bytes.
+
+use damper::{Answer, Commands, Drive, Last, Refusal, Run};
+use damper_check::flag::Flag;
+use damper_check::gen::{Bytes, Gen};
+use damper_check::model::Model;
+use damper_check::plain::Plain;
+use damper_check::proved::Proved;
+use damper_check::subject::Subject;
+
+/// A tick, a setpoint and a read.
+const EVENTS: [[u8; 4]; 3] = [[1, 0, 0, 0], [2, 128, 0, 0], [10, 0, 0, 0]];
+
+/// The three agree on a record, and give whether it is well formed.
+fn same(record: Drive) -> bool {
+    let well_formed = Model.well_formed(&record);
+    assert_eq!(Proved.well_formed(&record), well_formed, "{record:?}");
+    assert_eq!(Plain.well_formed(&record), well_formed, "{record:?}");
+    for [kind, a, b, c] in EVENTS {
+        let event = Bytes::event(kind, a, b, c);
+        let expected = Model.step(&record, event.as_slice());
+        assert_eq!(expected.0 == Answer::Refused(Refusal::Record), !well_formed, "{event:?} on {record:?}");
+        assert_eq!(Proved.step(&record, event.as_slice()), expected, "{event:?} on {record:?}");
+        let mut plain = record;
+        assert_eq!((Plain.step(&mut plain, event.as_slice()), plain), expected, "{event:?} on {record:?}");
+        if !well_formed {
+            assert_eq!(expected.1, record);
+        }
+    }
+    well_formed
+}
+
+/// Well-formed records: nothing set; every flag on with a value beside it; a run; each flag on alone.
+fn well_formed_records() -> Vec<Drive> {
+    let fresh = Model.fresh();
+    let all = Drive {
+        position: 100,
+        commands: Commands {
+            fault: 1,
+            forcing: 3,
+            hand: 1,
+            handpos: 10,
+            tool: 1,
+            toolpos: 20,
+            stored: 1,
+            setpoint: 30,
+        },
+        age: 40,
+        since: 50,
+        last: Last { reported: 1, position: 60, status: 32 },
+        ..fresh
+    };
+    let commands = |change: fn(&mut Commands)| {
+        let mut record = fresh;
+        change(&mut record.commands);
+        record
+    };
+    vec![
+        fresh,
+        all,
+        Drive { run: Run { kind: 1, left: 51 }, ..fresh },
+        Drive { run: Run { kind: 3, left: 1 }, ..fresh },
+        commands(|c| c.fault = 1),
+        commands(|c| c.forcing = 2),
+        commands(|c| (c.hand, c.handpos) = (1, 200)),
+        commands(|c| (c.tool, c.toolpos) = (1, 200)),
+        Drive { age: 65_535, ..commands(|c| (c.stored, c.setpoint) = (1, 200)) },
+        Drive { last: Last { reported: 1, position: 200, status: 255 }, ..fresh },
+    ]
+}
+
+#[test]
+fn the_fresh_drives_are_the_same() {
+    assert_eq!(Proved.fresh(), Model.fresh());
+    assert_eq!(Plain.fresh(), Model.fresh());
+}
+
+/// A record with each byte in place of each flag: 2 to 255 are refused.
+fn every_flag_byte_of(record: Drive) {
+    for flag in Flag::ALL {
+        for byte in 0..=255 {
+            let well_formed = same(flag.set(record, byte));
+            assert!(byte < 2 || !well_formed, "{flag:?} {byte} of {record:?}");
+        }
+    }
+}
+
+#[test]
+fn every_flag_byte() {
+    for record in well_formed_records() {
+        assert!(same(record));
+        every_flag_byte_of(record);
+    }
+}
+
+#[test]
+fn every_flag_byte_of_mixed_records() {
+    let mut gen = Gen::new(7);
+    for _ in 0..300 {
+        every_flag_byte_of(gen.record());
+    }
+}
+
+#[test]
+fn random_bytes() {
+    let mut gen = Gen::new(8);
+    for _ in 0..500_000 {
+        same(gen.random_bytes());
+    }
+}

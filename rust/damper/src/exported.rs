@@ -1,0 +1,139 @@
+//! What the archives export, declared once, each behind a safe function. None of the exported functions
+//! asks anything of its arguments beyond pointers that are valid for their lengths and rows that do not
+//! overlap, and a Rust slice is that. They keep no pointer and have no state of their own.
+
+use crate::{Commands, Drive, Last, Run};
+use core::mem::{align_of, offset_of, size_of};
+
+#[repr(C)]
+pub struct Stepped {
+    pub drive: Drive,
+    pub word: u8,
+    pub code: u32,
+}
+
+/// Refusal 0 is none.
+#[repr(C)]
+pub struct Found {
+    pub refusal: u8,
+    pub kind: u8,
+    pub a: u8,
+    pub b: u8,
+    pub c: u8,
+}
+
+#[repr(C)]
+pub struct Replayed {
+    pub drive: Drive,
+    pub count: usize,
+}
+
+// libhost.a
+extern "C" {
+    fn damper_fresh() -> Drive;
+    fn damper_well_formed(drive: Drive) -> bool;
+    fn damper_step(drive: Drive, bytes: *const u8, length: usize) -> Stepped;
+    fn damper_read(bytes: *const u8, length: usize) -> Found;
+    fn damper_write(buffer: *mut u8, length: usize, kind: u8, a: u8, b: u8, c: u8) -> u8;
+}
+
+// libhost_replay.a
+extern "C" {
+    fn damper_replay(
+        drive: Drive,
+        bytes: *const u8,
+        length: usize,
+        words: *mut u8,
+        words_length: usize,
+        codes: *mut u32,
+        codes_length: usize,
+    ) -> Replayed;
+}
+
+const _: () = {
+    assert!(size_of::<Drive>() == 44 && align_of::<Drive>() == 2);
+    assert!(size_of::<Commands>() == 8);
+    assert!(size_of::<Run>() == 2);
+    assert!(size_of::<Last>() == 3);
+    assert!(offset_of!(Drive, position) == 0);
+    assert!(offset_of!(Drive, params) == 2);
+    assert!(offset_of!(Drive, commands.fault) == 26);
+    assert!(offset_of!(Drive, commands.forcing) == 27);
+    assert!(offset_of!(Drive, commands.hand) == 28);
+    assert!(offset_of!(Drive, commands.handpos) == 29);
+    assert!(offset_of!(Drive, commands.tool) == 30);
+    assert!(offset_of!(Drive, commands.toolpos) == 31);
+    assert!(offset_of!(Drive, commands.stored) == 32);
+    assert!(offset_of!(Drive, commands.setpoint) == 33);
+    assert!(offset_of!(Drive, age) == 34);
+    assert!(offset_of!(Drive, run.kind) == 36);
+    assert!(offset_of!(Drive, run.left) == 37);
+    assert!(offset_of!(Drive, since) == 38);
+    assert!(offset_of!(Drive, last.reported) == 40);
+    assert!(offset_of!(Drive, last.position) == 41);
+    assert!(offset_of!(Drive, last.status) == 42);
+
+    assert!(size_of::<Stepped>() == 52 && align_of::<Stepped>() == 4);
+    assert!(offset_of!(Stepped, drive) == 0);
+    assert!(offset_of!(Stepped, word) == 44);
+    assert!(offset_of!(Stepped, code) == 48);
+
+    assert!(size_of::<Found>() == 5 && align_of::<Found>() == 1);
+    assert!(offset_of!(Found, refusal) == 0);
+    assert!(offset_of!(Found, kind) == 1);
+    assert!(offset_of!(Found, a) == 2);
+    assert!(offset_of!(Found, b) == 3);
+    assert!(offset_of!(Found, c) == 4);
+
+    assert!(size_of::<Replayed>() == 56 && align_of::<Replayed>() == 8);
+    assert!(offset_of!(Replayed, drive) == 0);
+    assert!(offset_of!(Replayed, count) == 48);
+};
+
+#[inline]
+pub fn fresh() -> Drive {
+    // SAFETY: it takes nothing, and any bytes are a `Drive`.
+    unsafe { damper_fresh() }
+}
+
+#[inline]
+pub fn well_formed(drive: &Drive) -> bool {
+    // SAFETY: the record passes by value, and any bytes are one; the answer is 0 or 1.
+    unsafe { damper_well_formed(*drive) }
+}
+
+#[inline]
+pub fn step(drive: &Drive, bytes: &[u8]) -> Stepped {
+    // SAFETY: the record passes by value, and any bytes are one; the pointer goes with the length of its
+    // slice.
+    unsafe { damper_step(*drive, bytes.as_ptr(), bytes.len()) }
+}
+
+#[inline]
+pub fn read(bytes: &[u8]) -> Found {
+    // SAFETY: the pointer goes with the length of its slice.
+    unsafe { damper_read(bytes.as_ptr(), bytes.len()) }
+}
+
+#[inline]
+pub fn write(buffer: &mut [u8], kind: u8, a: u8, b: u8, c: u8) -> u8 {
+    // SAFETY: the pointer goes with the length of its slice, which nobody else holds.
+    unsafe { damper_write(buffer.as_mut_ptr(), buffer.len(), kind, a, b, c) }
+}
+
+#[inline]
+pub fn replay(drive: &Drive, bytes: &[u8], words: &mut [u8], codes: &mut [u32]) -> Replayed {
+    // SAFETY: the record passes by value, and any bytes are one; each pointer goes with the length of its
+    // slice, and slices of which two are lent mutably do not overlap.
+    unsafe {
+        damper_replay(
+            *drive,
+            bytes.as_ptr(),
+            bytes.len(),
+            words.as_mut_ptr(),
+            words.len(),
+            codes.as_mut_ptr(),
+            codes.len(),
+        )
+    }
+}

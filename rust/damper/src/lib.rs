@@ -1,0 +1,43 @@
+//! The proved damper drive of document 01, for hosts in Rust. The drive itself is in the archives
+//! `libhost.a` and `libhost_replay.a`, written and proved in Rattle; this crate gives its numbers types and
+//! decides nothing.
+//!
+//! Cargo links them from the folder that the environment variable DAMPER_ARCHIVES names, or from the
+//! repository's target/staticlib, where `rt staticlib host` and `rt staticlib host_replay` write them.
+//!
+//! ```
+//! use damper::{Answer, Drive, Event, Parameter, Rank, Refusal};
+//!
+//! let mut drive = Drive::fresh();
+//! assert_eq!(drive.give(Event::WriteParameter(Parameter::MinRepTime, 1)), Answer::Done);
+//! assert_eq!(drive.give(Event::Setpoint(128)), Answer::Done);
+//! let Answer::Tick { position, rank, report, .. } = drive.give(Event::Tick) else { panic!() };
+//! assert_eq!((position, rank), (5, Rank::Bus));
+//! assert!(report.is_some_and(|status| !status.bus_not_active()));
+//!
+//! // Bytes as the bus gateway hands them over, any number of them.
+//! assert_eq!(drive.step(&[0x5A, 0xC3, 6, 2, 0, 0]), Answer::Refused(Refusal::Value));
+//!
+//! // Through storage and back.
+//! let stored: [u8; 44] = drive.to_bytes();
+//! assert_eq!(Drive::restore(stored), Ok(drive));
+//! ```
+
+#![no_std]
+#![warn(missing_docs)]
+
+#[cfg(not(target_arch = "x86_64"))]
+compile_error!("the archives of the proved drive are for x86-64");
+
+mod answer;
+mod drive;
+mod event;
+mod exported;
+mod parameter;
+mod refusal;
+
+pub use answer::{Answer, Motor, Rank, Status};
+pub use drive::{Commands, Drive, Last, Run};
+pub use event::{read, write, Command, Event};
+pub use parameter::Parameter;
+pub use refusal::Refusal;
