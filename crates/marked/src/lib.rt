@@ -1,1 +1,1 @@
-// No code: specs/Rows states the marked rows of document 01 and proves them by computation.
+// No code: specs/ states the marked rows of document 01 and rows of our own, and proves them by computation.
