@@ -98,14 +98,14 @@ enum damper_number {
     DAMPER_NUMBER_OPEN_CLOSE_DIRECTION = 115,  /* 1 exchanges the ways that the motor turns */
     DAMPER_NUMBER_ACT_POS_COV = 116,           /* %: the change of position that is reported */
     DAMPER_NUMBER_MIN_REP_TIME = 117,          /* s: from one report to the next, at least */
-    DAMPER_NUMBER_BACKUP_MODE = 120,           /* backup leads to 0: BackupValue, 1: the last bus setpoint */
+    DAMPER_NUMBER_BACKUP_MODE = 120,           /* backup at 0: to BackupValue, 1: to the last bus setpoint, or still */
     DAMPER_NUMBER_BACKUP_VALUE = 121,          /* % */
     DAMPER_NUMBER_START_SYNCHRONIZATION = 122, /* the run that a restart starts: 0 none, 1 toward 0, 2 toward 255 */
     DAMPER_NUMBER_TIMEOUT = 201,               /* s: how long a bus setpoint commands */
     DAMPER_NUMBER_REP_PER = 202,               /* s: after which a report goes out without a change */
     DAMPER_NUMBER_RATE = 203,                  /* position units a tick */
-    DAMPER_NUMBER_LOW = 204,                   /* position: where hand, tool, bus and backup lead, at least */
-    DAMPER_NUMBER_HIGH = 205                   /* position: and at most; never below Low */
+    DAMPER_NUMBER_LOW = 204,                   /* position: the least target of hand, tool, bus and backup (which may stand still) */
+    DAMPER_NUMBER_HIGH = 205                   /* position: and the greatest; never below Low */
 };
 
 /* A row of the parameter table. Values are in the unit said above. */

@@ -1,5 +1,5 @@
 -- Document 01, 'The drive record': the fresh drive, and the record with one group of its fields changed. antt has no record
--- update, so nothing else builds a record.
+-- update, so the other definitions build records by these.
 use mathlib.Core.List.{List}
 use Prim.Native.Nat.{ℕ}
 use lib.ListN.{set}

@@ -70,8 +70,8 @@ impl Drive {
         params[place]
     }
 
-    // What an accepted event does. The record is changed in place and the outcome built once: arms that each build one cost a tenth
-    // more instructions.
+    // What an accepted event does. Kinds 2 to 9 share one outcome, built at the end: arms that each build one cost a tenth more
+    // instructions.
     fn applied(mut self, e: Event) -> Outcome
         requires { ⌜ Ranges (self .params) ⌝ }
         requires { ⌜ Flags (self .commands) ⌝ }

@@ -4,7 +4,7 @@ ghost use lib.ListN.{length};
 ghost use Rattle.event.specs.Event.{event, eventIn, dataRefusal, recordRefusal, readOf, writeRefusal, writtenTo, valueOf};
 use numbers::pick8;
 
-// The bytes of a record.
+// How many bytes a record has.
 pub const LENGTH: usize = 6;
 
 // Document 01's eleven kinds.

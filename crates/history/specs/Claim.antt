@@ -133,7 +133,7 @@ Due m t = acceptedAs isTick m t ≡ true
 abbrev pub Refusal : Moment → Trace → Type 0
 Refusal m t = numberOf (m .answer) ≡ judgement (accepted t) (m .bytes)
 
--- refusal 1 never occurs
+-- refusal 1 never occurs (which follows from the sentence before)
 abbrev pub Formed : Moment → Trace → Type 0
 Formed m t = numberOf (m .answer) ≡ 1 → ⊥
 

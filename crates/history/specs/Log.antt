@@ -19,34 +19,34 @@ abbrev pub entry : ℕ → ℕ → ℕ → Entry
 entry n p s = record { number = n; position = p; status = s }
 
 -- the ticks after the latest report or restart, or from the beginning on, and the last report since the last restart
-pub record Told : Type 0 where
+pub record ReportState : Type 0 where
   pub since : ℕ
   pub last : Sent
 
-abbrev pub told : ℕ → Sent → Told
-told n x = record { since = n; last = x }
+abbrev pub reportState : ℕ → Sent → ReportState
+reportState n x = record { since = n; last = x }
 
 -- "A report goes out": whether the accepted event `e` after the history `h` brings one
-abbrev pub reportsAt : Event → List Event → Told → Bool
+abbrev pub reportsAt : Event → List Event → ReportState → Bool
 reportsAt e h k = isTick e && reportDue (parameters (e ∷ h)) (k .since + 1) (positionIn (e ∷ h)) (statusIn (e ∷ h)) (k .last)
 
--- after a restart nothing is told; "A report goes out, and since becomes 0"; "Since rises by one" at any other tick
-abbrev pub toldAfter : Event → List Event → Told → Told
-toldAfter e h k =
-    pick (isRestart e) (told 0 silent)
-    (pick (reportsAt e h k) (told 0 (sent (positionIn (e ∷ h)) (statusIn (e ∷ h))))
-    (told (pick (isTick e) (k .since + 1) (k .since)) (k .last)))
+-- a restart leaves no report; "A report goes out, and since becomes 0"; "Since rises by one" at any other tick
+abbrev pub stateAfter : Event → List Event → ReportState → ReportState
+stateAfter e h k =
+    pick (isRestart e) (reportState 0 silent)
+    (pick (reportsAt e h k) (reportState 0 (sent (positionIn (e ∷ h)) (statusIn (e ∷ h))))
+    (reportState (pick (isTick e) (k .since + 1) (k .since)) (k .last)))
 
--- the reports of a list of records, of which `n` came before, `h` accepted
-unfoldable pub logFrom : ℕ → List Event → Told → List (List ℕ) → List Entry
+-- the reports of a list of records, `n` records having come before it, of which `h` were accepted and left the state `k`
+unfoldable pub logFrom : ℕ → List Event → ReportState → List (List ℕ) → List Entry
 logFrom n h k [] = []
 logFrom n h k (s ∷ ss) =
     let e = eventIn s in
-    let rest = logFrom (n + 1) (e ∷ h) (toldAfter e h k) ss in
+    let rest = logFrom (n + 1) (e ∷ h) (stateAfter e h k) ss in
     pick (eqb (judgement h s) 0)
     (pick (reportsAt e h k) (entry (n + 1) (positionIn (e ∷ h)) (statusIn (e ∷ h)) ∷ rest) rest)
     (logFrom (n + 1) h k ss)
 
 -- the log of a drive that was fresh at first
 abbrev pub logIn : List (List ℕ) → List Entry
-logIn l = logFrom 0 [] (told 0 silent) l
+logIn l = logFrom 0 [] (reportState 0 silent) l

@@ -21,23 +21,23 @@ use Rattle.history.specs.Claim.{momentOf}
 use Rattle.history.specs.Waits.{silent-in}
 use Rattle.history.specs.Theorem.{demand-3}
 
--- what is told after a restart `r`, a report `q` or a tick `t`, `x` being what the answer reports
-told-law : (r q t : Bool) (n : ℕ) (x y : Sent) (p s : ℕ) → (q ≡ true → x ≡ sent p s) → (q ≡ false → x ≡ silent)
-    → L.told (pick (q || r) 0 (pick t (n + 1) n)) (pick r silent (C.orEarlier x y))
-    ≡ pick r (L.told 0 silent) (pick q (L.told 0 (sent p s)) (L.told (pick t (n + 1) n) y))
-told-law true true t n x y p s a b = refl
-told-law true false t n x y p s a b = refl
-told-law false true t n x y p s a b = rw (a refl)
-told-law false false t n x y p s a b = rw (b refl)
+-- the state after a restart `r`, a report `q` or a tick `t`, `x` being what the answer reports
+state-law : (r q t : Bool) (n : ℕ) (x y : Sent) (p s : ℕ) → (q ≡ true → x ≡ sent p s) → (q ≡ false → x ≡ silent)
+    → L.reportState (pick (q || r) 0 (pick t (n + 1) n)) (pick r silent (C.orEarlier x y))
+    ≡ pick r (L.reportState 0 silent) (pick q (L.reportState 0 (sent p s)) (L.reportState (pick t (n + 1) n) y))
+state-law true true t n x y p s a b = refl
+state-law true false t n x y p s a b = refl
+state-law false true t n x y p s a b = rw (a refl)
+state-law false false t n x y p s a b = rw (b refl)
 
 entry-law : (q : Bool) (n p s : ℕ) (x : Sent) (es : List L.Entry) → (q ≡ true → x ≡ sent p s) → (q ≡ false → x ≡ silent)
     → C.entriesOf n x es ≡ pick q (L.entry n p s ∷ es) es
 entry-law true n p s x es a b = rw (a refl)
 entry-law false n p s x es a b = rw (b refl)
 
--- what has been told after a trace
-abbrev toldIn : C.Trace → L.Told
-toldIn t = L.told (C.since t) (C.lastReport t)
+-- the state after a trace
+abbrev stateIn : C.Trace → L.ReportState
+stateIn t = L.reportState (C.since t) (C.lastReport t)
 
 module _ (m : C.Moment) (t : C.Trace) (w : C.Holds m t) where
   abbrev h : List Event
@@ -58,9 +58,9 @@ module _ (m : C.Moment) (t : C.Trace) (w : C.Holds m t) where
     unfolding C.accepted
     refused-accepted = rw j
 
-    pub refused-told : toldIn (m ∷ t) ≡ toldIn t
+    pub refused-state : stateIn (m ∷ t) ≡ stateIn t
     unfolding C.since C.lastReport
-    refused-told = rw (j, quiet, silent-in (m .answer) quiet)
+    refused-state = rw (j, quiet, silent-in (m .answer) quiet)
 
   -- one that is accepted tells what the list says
   module _ (j : eqb (R.judgement h (m .bytes)) 0 ≡ true) where
@@ -68,7 +68,7 @@ module _ (m : C.Moment) (t : C.Trace) (w : C.Holds m t) where
     unfolding C.accepted
     passed-accepted = rw j
 
-    reports-read : C.reports m ≡ L.reportsAt e h (toldIn t)
+    reports-read : C.reports m ≡ L.reportsAt e h (stateIn t)
     reports-read =
         cases (R.isTick e)
         (λ k. w .due (rw (j, k)) ∙ rw (k, passed-accepted))
@@ -79,14 +79,14 @@ module _ (m : C.Moment) (t : C.Trace) (w : C.Holds m t) where
 
     pub passed-entry : (n : ℕ) (es : List L.Entry)
         → C.entriesOf n (C.reportIn (m .answer)) es
-        ≡ pick (L.reportsAt e h (toldIn t)) (L.entry n (R.positionIn (e ∷ h)) (R.statusIn (e ∷ h)) ∷ es) es
+        ≡ pick (L.reportsAt e h (stateIn t)) (L.entry n (R.positionIn (e ∷ h)) (R.statusIn (e ∷ h)) ∷ es) es
     passed-entry n es = rw (← reports-read) (entry-law (C.reports m) n _ _ _ es sent-read (silent-in (m .answer)))
 
-    pub passed-told : toldIn (m ∷ t) ≡ L.toldAfter e h (toldIn t)
+    pub passed-state : stateIn (m ∷ t) ≡ L.stateAfter e h (stateIn t)
     unfolding C.since C.lastReport
-    passed-told =
+    passed-state =
         rw (← reports-read, j)
-        (told-law (R.isRestart e) (C.reports m) (R.isTick e) (C.since t) _ (C.lastReport t) _ _ sent-read (silent-in (m .answer)))
+        (state-law (R.isRestart e) (C.reports m) (R.isTick e) (C.since t) _ (C.lastReport t) _ _ sent-read (silent-in (m .answer)))
 
 -- a claim about a longer trace is one about what it began with
 claim-before : (l : List (List ℕ)) (os : List Outcome) (t : C.Trace) → C.Claim (C.traceOn t l os) → C.Claim t
@@ -96,7 +96,7 @@ claim-before (s ∷ l) [] t c = c
 claim-before (s ∷ l) (o ∷ os) t c = claim-before l os (momentOf s o ∷ t) c .1
 
 log-from : (step : Step) (l : List (List ℕ)) (d : Drive) (t : C.Trace) (n : ℕ) → C.Claim (C.traceOn t l (outcomes step d l))
-    → C.reportsFrom n (outcomes step d l) ≡ L.logFrom n (C.accepted t) (toldIn t) l
+    → C.reportsFrom n (outcomes step d l) ≡ L.logFrom n (C.accepted t) (stateIn t) l
 unfolding outcomes C.traceOn C.reportsFrom L.logFrom
 log-from step [] d t n c = refl
 log-from step (s ∷ l) d t n c =
@@ -108,17 +108,17 @@ log-from step (s ∷ l) d t n c =
     (λ j.
     rw j
     (passed-entry m t w j (n + 1) _
-    ∙ rw (rest, passed-accepted m t w j, passed-told m t w j)))
+    ∙ rw (rest, passed-accepted m t w j, passed-state m t w j)))
     (λ j.
     rw j
     (refused-entry m t w j (n + 1) _
-    ∙ rw (rest, refused-accepted m t w j, refused-told m t w j)))
+    ∙ rw (rest, refused-accepted m t w j, refused-state m t w j)))
 
 -- For every list of event records, any drive whose trace meets the claim sends the reports that the list decides, no others.
 pub log-decided : (step : Step) (l : List (List ℕ)) → C.Claim (C.traceOf step l) → C.logOf step l ≡ L.logIn l
 unfolding C.accepted C.since C.lastReport
 log-decided step l c = log-from step l freshDrive [] 0 c
 
--- One story: the reports of the proved drive are those read off the list.
-pub one-story : (l : List (List ℕ)) → C.logOf stepOf l ≡ L.logIn l
-one-story l = log-decided stepOf l (demand-3 l)
+-- The reports of the proved drive are those read off the list.
+pub log-read : (l : List (List ℕ)) → C.logOf stepOf l ≡ L.logIn l
+log-read l = log-decided stepOf l (demand-3 l)

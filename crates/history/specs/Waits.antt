@@ -1,4 +1,4 @@
--- Spacing and waiting follow from when a tick reports, on any trace.
+-- Spacing follows from when a tick reports and from the silence of other events, waiting from when a tick reports, on any trace.
 use mathlib.Core.Path.{_≡_, refl, sym, ap, _∙_}
 use mathlib.Core.Bool.{Bool, true, false, not, _&&_, _||_, false≢true}
 use mathlib.Core.List.{List, [], _∷_, _++_}

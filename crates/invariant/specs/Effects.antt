@@ -50,8 +50,8 @@ others g a b c = (
   g (event 11 a b c),
 )
 
--- `f` of the outcome of an accepted event is `g` of the event if it is so of a tick that is due, of one that is not, of a write of
--- the tool with command 0, of one with another, and of the other nine kinds. Each is an equation of functions of the data bytes.
+-- `f` of the outcome of an accepted event is `g` of the event if it is so of a tick that is due, of one that is not, of an LTE
+-- setpoint with command 0, of one with another, and of the other nine kinds. Each is an equation of functions of the data bytes.
 after : {A : Type 0} (f : Outcome → A) (d : Drive) (g : Event → A)
     → (due (advance d .drive) ≡ true → _≡_ {A = ℕ → ℕ → ℕ → A} (λ a b c. f (tickWith true (advance d))) (λ a b c. g (event 1 a b c)))
     → (due (advance d .drive) ≡ false → _≡_ {A = ℕ → ℕ → ℕ → A} (λ a b c. f (tickWith false (advance d))) (λ a b c. g (event 1 a b c)))

@@ -10,7 +10,6 @@ use Rattle.numbers.specs.Laws.{and-intro}
 use Rattle.answer.specs.declared.Answer.{Answer}
 use Rattle.answer.specs.Answer.{wordOf, codeOf}
 use Rattle.damper.specs.declared.Drive.{Drive}
-use Rattle.damper.specs.declared.Outcome.{Outcome}
 use Rattle.damper.specs.Record.{freshDrive}
 use Rattle.damper.specs.Step.{stepOf}
 use Rattle.damper.specs.Carry.{Step, outcomes, driveAfter}
@@ -46,16 +45,13 @@ abbrev pub driveOf : List (List ℕ) → Drive
 driveOf l = driveAfter freshDrive (outcomes stepOf freshDrive l)
 
 abbrev pub Differs : Row → Type 0
-Differs r = r .step (driveOf (r .before)) (r .bytes) ≡ stepOf (driveOf (r .before)) (r .bytes) → ⊥
+Differs r = r .step (driveOf (r .before)) (r .bytes) .answer ≡ stepOf (driveOf (r .before)) (r .bytes) .answer → ⊥
 
 abbrev same : Answer → Answer → Bool
 same a b = eqb (wordOf a) (wordOf b) && eqb (codeOf a) (codeOf b)
 
-differs-by : (o p : Outcome) → not (same (o .answer) (p .answer)) ≡ true → o ≡ p → ⊥
-differs-by o p q e =
-    let a = ap (λ (x : Outcome). wordOf (x .answer)) e in
-    let b = ap (λ (x : Outcome). codeOf (x .answer)) e in
-    false≢true (sym (not-true _ q) ∙ and-intro (eq-eqb _ _ a) (eq-eqb _ _ b))
+differs-by : (a b : Answer) → not (same a b) ≡ true → a ≡ b → ⊥
+differs-by a b q e = false≢true (sym (not-true _ q) ∙ and-intro (eq-eqb _ _ (ap wordOf e)) (eq-eqb _ _ (ap codeOf e)))
 
 -- Each answers its record otherwise than document 01's drive.
 pub differs : Each Differs table
@@ -63,6 +59,6 @@ unfolding computation
 differs =
     each Differs
     (λ r. not (same (r .step (driveOf (r .before)) (r .bytes) .answer) (stepOf (driveOf (r .before)) (r .bytes) .answer)))
-    (λ r. differs-by (r .step (driveOf (r .before)) (r .bytes)) (stepOf (driveOf (r .before)) (r .bytes)))
+    (λ r. differs-by (r .step (driveOf (r .before)) (r .bytes) .answer) (stepOf (driveOf (r .before)) (r .bytes) .answer))
     table
     refl

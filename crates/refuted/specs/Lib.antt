@@ -1,5 +1,5 @@
--- Wrong drives, refused by the claim of demand 3 or by demand 2; wordings of its sentences that the right drive refutes; and that no
--- sentence of the claim is empty.
+-- Wrong drives, refused by the claim of demand 3 or by demand 2; wordings of its sentences that the right drive refutes; and that the
+-- sentences on waits are not empty.
 pub mod Events
 pub mod Closed
 pub mod Wrong

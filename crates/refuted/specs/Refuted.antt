@@ -68,7 +68,7 @@ refuted =
     table
     refl
 
--- On the same lists no test is set for the right drive.
+-- On the same lists the row's own test is not set for the right drive.
 pub right : all (λ (r : Row). not (brokenIn (r .sentence) (traceOf stepOf (r .list)))) table ≡ true
 unfolding computation
 right = refl

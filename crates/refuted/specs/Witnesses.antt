@@ -1,4 +1,4 @@
--- That no sentence of the claim is empty: lists on which the right drive meets all that a sentence supposes.
+-- That spacing, waiting and due are not empty: lists on which the right drive meets all that they suppose.
 use mathlib.Core.Path.{_≡_, refl}
 use mathlib.Core.Bool.{Bool, true, false}
 use mathlib.Core.List.{List, [], _∷_, _++_}
@@ -59,12 +59,14 @@ silentWait =
 
 -- A wait that ends in a report, and `Due` of a tick that is due: MinRepTime 2 and two ticks, the last one reports.
 pub reportedWait : (m : Moment) × (row old : Trace) × (traceOf stepOf (minRepTime 2 ∷ replicate 2 tick) ≡ m ∷ (row ++ old))
-    × (ticksIn (m ∷ row) old ≡ wait m (row ++ old)) × Quiet old row × (reports m ≡ true) × (isDue m (row ++ old) ≡ true)
+    × (acceptedAs isTick m (row ++ old) ≡ true) × (ticksIn (m ∷ row) old ≡ wait m (row ++ old)) × Quiet old row × (reports m ≡ true)
+    × (isDue m (row ++ old) ≡ true)
 unfolding computation
 reportedWait = (
   moment tick (Report 0 0 0 32) 0,
   moment tick (Tick 0 0 0) 0 ∷ [],
   moment (minRepTime 2) Done 0 ∷ [],
+  refl,
   refl,
   refl,
   more refl refl none,

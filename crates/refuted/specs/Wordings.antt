@@ -1,4 +1,4 @@
--- Wordings of demand 3's sentences that look right and are false of the proved drive: each differs from the claim's own in one
+-- Wordings of the claim's sentences that look right and are false of the proved drive: each differs from the claim's own in one
 -- operand, and is refuted by a list of event records.
 use mathlib.Core.Path.{_≡_, refl}
 use mathlib.Core.Bool.{true, not}

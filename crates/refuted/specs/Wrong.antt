@@ -126,10 +126,6 @@ readReports = only Kind.readPosition (λ d e. outcome (reported d) (Report (d .p
 
 -- Moves.
 
--- moves and never reports; `waiting`: MinRepTime 1, a setpoint, a tick
-abbrev pub neverReports : Step
-neverReports = reporting (λ d m. false)
-
 -- moves as soon as it gets a setpoint; `others`: a setpoint
 abbrev pub setpointMoves : Step
 setpointMoves = only Kind.setpoint (λ d e. let m = obeyed d e in done (moved m (ruling m)))
@@ -148,6 +144,10 @@ abbrev pub restartCloses : Step
 restartCloses = only Kind.restart (λ d e. done (withPosition (restarted d) 0))
 
 -- Reports.
+
+-- moves and never reports; `waiting`: MinRepTime 1, a setpoint, a tick
+abbrev pub neverReports : Step
+neverReports = reporting (λ d m. false)
 
 -- reports the position before the move; `content`: MinRepTime 1, a setpoint, a tick
 abbrev pub positionBefore : Step

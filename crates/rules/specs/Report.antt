@@ -1,4 +1,4 @@
--- Document 01, 'One tick, in order' and 'Who commands': the status byte and the change-of-value test.
+-- Document 01, 'One tick, in order' and 'Who commands': the status byte, the change-of-value test, and when a report is due.
 use mathlib.Core.Bool.{Bool, true, not, _&&_, _||_}
 use mathlib.Core.List.{List}
 use Prim.Native.Nat.{ℕ, _+_, _*_}

@@ -21,7 +21,7 @@ pub struct Drive {
     pub age: u16,
     /// The run that is going, if any.
     pub run: Run,
-    /// Ticks since the last report, up to 65,535.
+    /// Ticks since the last report or restart, up to 65,535.
     pub since: u16,
     /// The last report, if any.
     pub last: Last,

@@ -15,7 +15,7 @@ pub enum Parameter {
     ActPosCov,
     /// 117, seconds: the least time between reports.
     MinRepTime,
-    /// 120: without a commander, 0 goes to BackupValue and 1 keeps the last setpoint.
+    /// 120: backup goes to BackupValue at 0, at 1 to the last setpoint, or stands still with none.
     BackupMode,
     /// 121, percent.
     BackupValue,
@@ -27,9 +27,9 @@ pub enum Parameter {
     RepPer,
     /// 203, position units a tick.
     Rate,
-    /// 204, the least position of a target.
+    /// 204, the least target of hand, tool, bus and backup.
     Low,
-    /// 205, the greatest position of a target.
+    /// 205, the greatest target of hand, tool, bus and backup.
     High,
 }
 
