@@ -92,7 +92,7 @@ pub struct Session {
     pub kept: usize,
 }
 
-// The session after a piece of the input, and how many bytes its lines have.
+// What a piece of the input leaves, and how many bytes its lines have.
 pub struct Turned {
     pub next: Session,
     pub used: usize,
