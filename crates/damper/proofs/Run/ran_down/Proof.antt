@@ -1,6 +1,6 @@
 use Rattle.damper.specs.Tick.{ranDown}
 use mathlib.Core.Path.{_≡_}
-use Prim.Native.Nat.{_-_}
+use Prim.Native.Nat.{_-_, _≤_}
 use native.Mathlib.Omega.{arith}
 use borrow.Author.Tests.{le-leb, lt-leb}
 use borrow.Author.Needs.{needs}
@@ -10,8 +10,9 @@ use Rattle.damper.proofs.Run.ran_down.Tie as tie
 returns : tie.Need-returns
 unfolding ranDown
 returns c =
+    let last : c .before .args .self .left ≤ 1 = c .if1 .taken in
     let z : c .before .args .self .left - 1 ≡ 0 = omega arith in
-    simp (le-leb _ _ (c .if1 .taken), z)
+    simp (le-leb _ _ last, z)
 
 returns-2 : tie.Need-returns-2
 unfolding ranDown
