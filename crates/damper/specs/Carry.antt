@@ -1,6 +1,8 @@
 -- A drive carried over a list of event records, one after the other.
-use mathlib.Core.List.{List, [], _∷_}
+use mathlib.Core.List.{List, [], _∷_, _++_, map}
 use Prim.Native.Nat.{ℕ}
+use lib.ListN.{length, drop}
+use Rattle.answer.specs.declared.Answer.{Answer}
 use Rattle.damper.specs.declared.Drive.{Drive}
 use Rattle.damper.specs.declared.Outcome.{Outcome}
 
@@ -17,3 +19,7 @@ outcomes step d (s ∷ ss) = let o = step d s in o ∷ outcomes step (o .drive) 
 unfoldable pub driveAfter : Drive → List Outcome → Drive
 driveAfter d [] = d
 driveAfter d (o ∷ os) = driveAfter (o .drive) os
+
+-- a row of numbers after these outcomes: a number of each answer, in order, and then what the row held there
+unfoldable pub answersIn : (Answer → ℕ) → List Outcome → List ℕ → List ℕ
+answersIn number os row = map (λ o. number (o .answer)) os ++ drop (length os) row

@@ -1,16 +1,18 @@
 -- Laws of a drive that is carried over a list of event records, and of a loop that carries it over a slice of them.
 use mathlib.Core.Path.{_≡_, refl, sym, _∙_}
-use mathlib.Core.List.{List, [], _∷_, _++_, append-nil}
+use mathlib.Core.List.{List, [], _∷_, _++_, append-nil, map, map-append}
 use Prim.Native.Nat.{ℕ, _+_, _-_, _<_, _≤_, min}
 use native.Mathlib.Omega.{arith}
 use native.Mathlib.Nat.{sub-zero, add-sub-cancel-left}
-use lib.ListN.{length, take, drop, length-append}
-use lib.Seq.{append-snoc}
+use native.Mathlib.Numerals.{add-one}
+use lib.ListN.{length, take, drop, set, length-append, length-map}
+use lib.Seq.{append-snoc, drop-cons, set-at}
+use Rattle.answer.specs.declared.Answer.{Answer}
 use Rattle.event.specs.Records.{recordsOf}
 use Rattle.event.specs.RecordLaws.{left-none, left-more}
 use Rattle.damper.specs.declared.Drive.{Drive}
 use Rattle.damper.specs.declared.Outcome.{Outcome}
-use Rattle.damper.specs.Carry.{Step, outcomes, driveAfter}
+use Rattle.damper.specs.Carry.{Step, outcomes, driveAfter, answersIn}
 
 -- each record has one outcome
 pub outcomes-length : (step : Step) (d : Drive) (l : List (List ℕ)) → length (outcomes step d l) ≡ length l
@@ -63,3 +65,10 @@ module _ {step : Step} {d₀ : Drive} {room : ℕ} {s : List ℕ} {os : List Out
   pub ended : length s ≤ at → outcomes step d₀ (take room (recordsOf s)) ≡ os
   unfolding outcomes
   ended h = (rw (left-none (room - i) s at h) at (c .left)) ∙ append-nil os
+
+-- the number `w` of the next outcome `o` is stored at the first place of a row that has none
+pub answers-more : (number : Answer → ℕ) (os : List Outcome) (row₀ : List ℕ) (o : Outcome) {row : List ℕ} {i w : ℕ} → i < length row₀
+    → i ≡ length os → w ≡ number (o .answer) → row ≡ answersIn number os row₀ → set row i w ≡ answersIn number (os ++ (o ∷ [])) row₀
+unfolding answersIn
+answers-more number os row₀ o {row} {i} h k ew e =
+    rw (e, ew, length-append, ← k, add-one, drop-cons row₀ i 0, set-at (map _ os) _ _ _ i (length-map os _ ∙ sym k), map-append, append-snoc)

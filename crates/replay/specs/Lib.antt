@@ -1,3 +1,2 @@
--- A drive carried over a row of event records: the records carried out, and the rows of answers.
+-- A drive carried over a row of event records.
 pub mod Replay
-pub mod Laws

@@ -3,8 +3,8 @@ ghost use mathlib.Core.Path.{_≡_};
 ghost use lib.ListN.{length};
 ghost use Rattle.answer.specs.Answer.{wordOf, codeOf};
 ghost use Rattle.damper.specs.Step.{stepOf};
-ghost use Rattle.damper.specs.Carry.{outcomes, driveAfter};
-ghost use Rattle.replay.specs.Replay.{carried, rowAfter};
+ghost use Rattle.damper.specs.Carry.{outcomes, driveAfter, answersIn};
+ghost use Rattle.replay.specs.Replay.{carried};
 use damper::Drive;
 
 // The drive after the records that were carried out, and how many these are.
@@ -19,8 +19,8 @@ pub struct Replayed {
 pub fn replay(mut d: Drive, s: &[u8], words: &mut [u8], codes: &mut [u32]) -> Replayed
     ensures drive { λ r. ⌜ r .drive ≡ driveAfter d (outcomes stepOf d (carried (now (s .entry)) (now (words .entry)) (now (codes .entry)))) ⌝ }
     ensures count { λ r. ⌜ r .count ≡ length (carried (now (s .entry)) (now (words .entry)) (now (codes .entry))) ⌝ }
-    ensures words { λ _. ⌜ now (words .exit) ≡ rowAfter wordOf (outcomes stepOf d (carried (now (s .entry)) (now (words .entry)) (now (codes .entry)))) (now (words .entry)) ⌝ }
-    ensures codes { λ _. ⌜ now (codes .exit) ≡ rowAfter codeOf (outcomes stepOf d (carried (now (s .entry)) (now (words .entry)) (now (codes .entry)))) (now (codes .entry)) ⌝ }
+    ensures words { λ _. ⌜ now (words .exit) ≡ answersIn wordOf (outcomes stepOf d (carried (now (s .entry)) (now (words .entry)) (now (codes .entry)))) (now (words .entry)) ⌝ }
+    ensures codes { λ _. ⌜ now (codes .exit) ≡ answersIn codeOf (outcomes stepOf d (carried (now (s .entry)) (now (words .entry)) (now (codes .entry)))) (now (codes .entry)) ⌝ }
 {
     let room = numbers::min_size(words.len(), codes.len());
     let formed = d.well_formed();

@@ -9,10 +9,9 @@ use Rattle.answer.specs.Answer.{wordOf, codeOf}
 use Rattle.damper.specs.declared.Outcome.{Outcome}
 use Rattle.damper.specs.WellFormed.{wellFormed}
 use Rattle.damper.specs.Step.{stepOf}
-use Rattle.damper.specs.CarryLaws.{Carried, start, turn, full, ended, outcomes-length}
+use Rattle.damper.specs.Carry.{answersIn}
+use Rattle.damper.specs.CarryLaws.{Carried, start, turn, full, ended, outcomes-length, answers-more}
 use Rattle.invariant.specs.Kept.{formed-kept}
-use Rattle.replay.specs.Replay.{rowAfter}
-use Rattle.replay.specs.Laws.{row-more}
 use Rattle.replay.proofs.replay.Statement.{statement}
 use Rattle.replay.proofs.replay.Tie as tie
 
@@ -22,15 +21,15 @@ Inv-loop d₀ s words₀ codes₀ room formed i₀ at₀ d words codes i at =
     × Carried stepOf d₀ (min (length words₀) (length codes₀)) s os d i at
     × (length words ≡ length words₀)
     × (length codes ≡ length codes₀)
-    × (words ≡ rowAfter wordOf os words₀)
-    × (codes ≡ rowAfter codeOf os codes₀)
+    × (words ≡ answersIn wordOf os words₀)
+    × (codes ≡ answersIn codeOf os codes₀)
     × (formed ≡ wellFormed d)
 
 abbrev μ-loop : tie.MeasureT-loop
 μ-loop d₀ s words₀ codes₀ room formed i₀ at₀ d words codes i at = room - i
 
 loop-holds : tie.Need-loop-holds Inv-loop μ-loop
-unfolding rowAfter
+unfolding answersIn
 loop-holds c = ([], start, refl, refl, refl, refl, c .well-formed .ensures)
 
 step-if-requires : tie.Need-step-if-requires Inv-loop μ-loop
@@ -57,8 +56,8 @@ loop-again c =
       turn (l .inv .1) (omega (arith, more, room)) (omega (arith, some)) (size .ensures) (step .ensures),
       search needs,
       search needs,
-      row-more wordOf (l .inv .0) (a .words .now) (step .result) (omega (arith, more, room)) (l .inv .1 .count) (c .before .word .ensures) (l .inv .4),
-      row-more codeOf (l .inv .0) (a .codes .now) (step .result) (omega (arith, more, room)) (l .inv .1 .count) (c .code .ensures) (l .inv .5),
+      answers-more wordOf (l .inv .0) (a .words .now) (step .result) (omega (arith, more, room)) (l .inv .1 .count) (c .before .word .ensures) (l .inv .4),
+      answers-more codeOf (l .inv .0) (a .codes .now) (step .result) (omega (arith, more, room)) (l .inv .1 .count) (c .code .ensures) (l .inv .5),
       rw (step .ensures) (l .inv .6 ∙ sym (formed-kept (l .d) _)),
     )
 

@@ -1,0 +1,21 @@
+use borrow.Author.Needs.{needs}
+use Rattle.hall.specs.Hall.{callRefusal}
+use Rattle.hall.proofs.event_refusal.Statement.{statement}
+use Rattle.hall.proofs.event_refusal.Tie as tie
+
+returns : tie.Need-returns
+unfolding callRefusal
+returns c =
+    let judged = c .before .before .before in
+    simp (
+      c .pick83 .ensures,
+      c .before .pick82 .ensures,
+      c .before .before .pick8 .ensures,
+      judged .unknown .ensures,
+      judged .before .bad-row .ensures,
+      judged .before .before .is-tick .ensures)
+
+pub event-refusal-spec : {M : Type 1} → statement M
+event-refusal-spec =
+    tie.close
+    (tie.spec (λ c κs. search needs) (λ c κs. search needs) (λ c κs. search needs) (λ c κs. search needs) (λ c κs. search needs) (λ c κs. search needs) returns)

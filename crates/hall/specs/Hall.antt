@@ -1,0 +1,142 @@
+-- Document 02, W-201: 1 to 64 drive records in one row, the calls on them, and each drive's share of these.
+use mathlib.Core.Bool.{Bool, true, false, _||_}
+use mathlib.Core.List.{List, [], _∷_, _++_, map}
+use Prim.Native.Nat.{ℕ, zero, suc, _+_, _*_}
+use lib.Dec.{ltb, leb, eqb}
+use lib.ListN.{length, getD, set}
+use Rattle.numbers.specs.Numbers.{pick}
+use Rattle.answer.specs.declared.Answer.{Answer}
+use Rattle.answer.specs.Answer.{numberOf, valuesOf, isReport}
+use Rattle.event.specs.declared.Decoded.{Decoded}
+use Rattle.event.specs.declared.Decoded.the-variants.{Accepted, Refused}
+use Rattle.event.specs.Kinds as Kind
+use Rattle.event.specs.Event.{event, bytesOf, readOf}
+use Rattle.damper.specs.declared.Drive.{Drive}
+use Rattle.damper.specs.declared.Outcome.{Outcome}
+use Rattle.damper.specs.Record.{freshDrive}
+use Rattle.damper.specs.Carry.{Step, answersIn}
+
+-- A hall call, and last the length of the row that is lent for its answers.
+pub data Call : Type 0 where
+  -- "One call gives the bytes of an event other than a tick to a list of drives": the list, the bytes
+  give : List ℕ → List ℕ → ℕ → Call
+  -- "One call ticks them all"
+  tick : ℕ → Call
+
+-- 14: "when the row holds no drive or over 64"
+abbrev pub badRow : ℕ → Bool
+badRow n = ltb n 1 || ltb 64 n
+
+-- 15: "when a listed drive number is not below the row's length"
+unfoldable pub unknown : ℕ → List ℕ → Bool
+unknown n [] = false
+unknown n (i ∷ list) = leb n i || unknown n list
+
+-- 16: "when the bytes are a tick that the reader accepts, the list has over 64 entries, or the answer row is shorter than the list"
+abbrev pub isTick : Decoded → Bool
+isTick (Accepted e) = eqb (e .kind) Kind.tick
+isTick (Refused n) = false
+
+abbrev pub misgiven : List ℕ → List ℕ → ℕ → Bool
+misgiven list s room = (isTick (readOf s) || ltb 64 (length list)) || ltb room (length list)
+
+-- "14 to 16 come before 1 to 13, in this order": the first that fits a call on `n` drives, 0 if none does; "(for the hall tick, than
+-- the row of drives)"
+unfoldable pub callRefusal : ℕ → Call → ℕ
+callRefusal n (give list s room) = pick (badRow n) 14 (pick (unknown n list) 15 (pick (misgiven list s room) 16 0))
+callRefusal n (tick room) = pick (badRow n) 14 (pick (ltb room n) 16 0)
+
+-- one event record given to the drive at one place of the row
+pub record Turn : Type 0 where
+  pub place : ℕ
+  pub bytes : List ℕ
+
+abbrev pub turn : List ℕ → ℕ → Turn
+turn s i = record { place = i; bytes = s }
+
+-- `n` places from `i` on; "Drives are numbered from 0"
+abbrev pub placesFrom : ℕ → ℕ → List ℕ
+placesFrom i zero = []
+placesFrom i (suc n) = i ∷ placesFrom (i + 1) n
+
+abbrev pub tickBytes : List ℕ
+tickBytes = bytesOf (event Kind.tick 0 0 0)
+
+-- "to a list of drives, in list order"; "ticks them all"
+abbrev pub turnsAsked : ℕ → Call → List Turn
+turnsAsked n (give list s room) = map (turn s) list
+turnsAsked n (tick room) = map (turn tickBytes) (placesFrom 0 n)
+
+-- the turns of a call on `n` drives; where it is refused itself "nothing is touched"
+unfoldable pub turnsOf : ℕ → Call → List Turn
+turnsOf n c = pick (eqb (callRefusal n c) 0) (turnsAsked n c) []
+
+-- the drive at a place of the row (no turn of a call has a place beyond the row)
+abbrev pub at : List Drive → ℕ → Drive
+at row i = getD row i freshDrive
+
+-- what the turns give, one after the other: each place gets the drive that the step leaves from the drive standing there then, so
+-- that of a drive named twice "the event is given twice"
+unfoldable pub turned : Step → List Drive → List Turn → List Outcome
+turned step row [] = []
+turned step row (t ∷ ts) =
+    let o = step (at row (t .place)) (t .bytes) in
+    o ∷ turned step (set row (t .place) (o .drive)) ts
+
+-- the row after them; "A drive not named keeps every field."
+unfoldable pub rowAfter : Step → List Drive → List Turn → List Drive
+rowAfter step row [] = row
+rowAfter step row (t ∷ ts) = rowAfter step (set row (t .place) (step (at row (t .place)) (t .bytes) .drive)) ts
+
+-- the number of a tick's answer: "0 silent, 65,536 + 256 × position + status for a report, 1 for a drive not well formed" (which is
+-- all that can refuse a tick), position and status being the first and the fourth value
+abbrev pub tickNumber : Answer → ℕ
+tickNumber a = pick (isReport a) (65536 + 256 * getD (valuesOf a) 0 0 + getD (valuesOf a) 3 0) (numberOf a)
+
+-- "one answer number (0 or the refusal) per entry"; "one number per drive"
+abbrev pub answerNumber : Call → Answer → ℕ
+answerNumber (give list s room) a = numberOf a
+answerNumber (tick room) a = tickNumber a
+
+-- the answer row after a call on a row of drives; "Further places of the row keep their content."
+unfoldable pub answersAfter : Step → List Drive → Call → List ℕ → List ℕ
+answersAfter step row c answers = answersIn (answerNumber c) (turned step row (turnsOf (length row) c)) answers
+
+-- A list of calls, each on the row that the one before left.
+
+-- the turns of them all, on `n` drives
+unfoldable pub turnsIn : ℕ → List Call → List Turn
+turnsIn n [] = []
+turnsIn n (c ∷ cs) = turnsOf n c ++ turnsIn n cs
+
+-- the row after them
+unfoldable pub hallAfter : Step → List Drive → List Call → List Drive
+hallAfter step row [] = row
+hallAfter step row (c ∷ cs) = hallAfter step (rowAfter step row (turnsOf (length row) c)) cs
+
+-- what their turns gave
+unfoldable pub hallTurned : Step → List Drive → List Call → List Outcome
+hallTurned step row [] = []
+hallTurned step row (c ∷ cs) =
+    let ts = turnsOf (length row) c in
+    turned step row ts ++ hallTurned step (rowAfter step row ts) cs
+
+-- The share of the drive at place `i`: "its own share of the hall's calls; a hall call refused itself belongs to no share".
+
+-- the bytes of its turns among these, in order
+unfoldable pub sharedOut : ℕ → List Turn → List (List ℕ)
+sharedOut i [] = []
+sharedOut i (t ∷ ts) = let rest = sharedOut i ts in pick (eqb (t .place) i) (t .bytes ∷ rest) rest
+
+-- what these turns gave, of what all of them gave
+unfoldable pub ownOf : ℕ → List Turn → List Outcome → List Outcome
+ownOf i [] os = []
+ownOf i (t ∷ ts) [] = []
+ownOf i (t ∷ ts) (o ∷ os) = let rest = ownOf i ts os in pick (eqb (t .place) i) (o ∷ rest) rest
+
+-- its share of a list of calls on `n` drives, and what its turns gave
+abbrev pub share : ℕ → ℕ → List Call → List (List ℕ)
+share n i cs = sharedOut i (turnsIn n cs)
+
+abbrev pub own : Step → List Drive → ℕ → List Call → List Outcome
+own step row i cs = ownOf i (turnsIn (length row) cs) (hallTurned step row cs)

@@ -1,0 +1,84 @@
+// When a hall call is refused itself, and how many turns it has.
+ghost use mathlib.Core.Path.{_≡_};
+ghost use Prim.Native.Nat.{_<_};
+ghost use lib.Dec.{eqb};
+ghost use lib.ListN.{length, getD};
+ghost use Rattle.numbers.specs.Numbers.{pick};
+ghost use Rattle.event.specs.Event.{readOf};
+ghost use Rattle.hall.specs.Hall.{give, tick, badRow, unknown, isTick, callRefusal};
+use event::Decoded;
+use numbers::pick8;
+
+// The most drives of a row, and entries of a list.
+const MOST: usize = 64;
+
+fn wide(n: u32) -> usize
+    ensures { λ r. ⌜ r ≡ n ⌝ }
+{
+    n as usize
+}
+
+// Entry k of a list of drive numbers.
+pub fn entry(list: &[u32], k: usize) -> usize
+    requires { ⌜ k < length (now list) ⌝ }
+    ensures { λ r. ⌜ r ≡ getD (now (list .entry)) k 0 ⌝ }
+{
+    wide(list[k])
+}
+
+// Whether the list has a number that is not below the row's length.
+fn unknown(drives: usize, list: &[u32]) -> bool
+    ensures { λ r. ⌜ r ≡ unknown drives (now (list .entry)) ⌝ }
+{
+    let mut k: usize = 0;
+    while k < list.len() {
+        if drives <= entry(list, k) {
+            return true;
+        }
+        k += 1;
+    }
+    false
+}
+
+// Whether the reader accepts the bytes as a tick.
+fn is_tick(s: &[u8]) -> bool
+    ensures { λ r. ⌜ r ≡ isTick (readOf (now (s .entry))) ⌝ }
+{
+    match event::read(s) {
+        Decoded::Accepted(e) => e.kind == event::TICK,
+        Decoded::Refused(_) => false,
+    }
+}
+
+// Whether a row of drives is empty or too long.
+fn bad_row(drives: usize) -> bool
+    ensures { λ r. ⌜ r ≡ badRow drives ⌝ }
+{
+    (drives < 1) | (MOST < drives)
+}
+
+// The first of 14 to 16 that fits an event call, or 0.
+pub fn event_refusal(drives: usize, list: &[u32], s: &[u8], places: usize) -> u8
+    ensures { λ r. ⌜ r ≡ callRefusal drives (give (now (list .entry)) (now (s .entry)) places) ⌝ }
+{
+    let misgiven = is_tick(s) | (MOST < list.len()) | (places < list.len());
+    pick8(
+        bad_row(drives),
+        14,
+        pick8(unknown(drives, list), 15, pick8(misgiven, 16, 0)),
+    )
+}
+
+// The first of 14 and 16 that fits a hall tick, or 0.
+pub fn tick_refusal(drives: usize, places: usize) -> u8
+    ensures { λ r. ⌜ r ≡ callRefusal drives (tick places) ⌝ }
+{
+    pick8(bad_row(drives), 14, pick8(places < drives, 16, 0))
+}
+
+// How many turns a call has: as many as it asks for, or none where it is refused.
+pub fn turns(refusal: u8, asked: usize) -> usize
+    ensures { λ r. ⌜ r ≡ pick (eqb refusal 0) asked 0 ⌝ }
+{
+    if refusal == 0 { asked } else { 0 }
+}
