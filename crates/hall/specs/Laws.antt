@@ -4,15 +4,16 @@ use mathlib.Core.Bool.{Bool, true, false, _||_}
 use mathlib.Core.List.{List, [], _∷_, _++_, map}
 use Prim.Native.Nat.{ℕ, zero, suc, _+_, _<_, _≤_}
 use native.Mathlib.Omega.{arith}
-use native.Mathlib.Nat.{not-suc-le-zero, le-of-suc-le-suc}
+use native.Mathlib.Nat.{not-suc-le-zero, le-of-suc-le-suc, zero-add}
 use native.Mathlib.Numerals.{add-one}
 use lib.Dec.{ltb, leb, eqb}
-use lib.ListN.{length, getD, set, take, drop, length-set, length-map, length-append, drop-of-length-le, List·getD-map}
-use lib.Seq.{drop-cons, drop-length, take-suc}
-use borrow.Author.Tests.{lt-leb, le-leb, leb-false, ltb-false}
+use lib.ListN.{length, getD, set, take, drop, length-set, length-map, length-append, length-take, length-drop, drop-of-length-le, List·getD-map}
+use lib.Seq.{drop-cons, take-suc, take-length, length-take-le}
+use borrow.Author.Tests.{lt-leb, le-leb, leb-false, ltb-false, eqb-true}
 use Rattle.numbers.specs.Numbers.{pick}
-use Rattle.numbers.specs.Laws.{or-left, or-right, passed}
+use Rattle.numbers.specs.Laws.{or-left, or-right, passed, cases}
 use Rattle.answer.specs.declared.Answer.{Answer}
+use Rattle.event.specs.Event.{readOf}
 use Rattle.damper.specs.declared.Drive.{Drive}
 use Rattle.damper.specs.declared.Outcome.{Outcome}
 use Rattle.damper.specs.Carry.{Step, answersIn}
@@ -38,3 +39,158 @@ unfolding unknown
 known-at n [] e k h = absurd (not-suc-le-zero h)
 known-at n (i ∷ list) e zero h = leb-false n i (or-left (leb n i) _ e)
 known-at n (i ∷ list) e (suc k) h = known-at n list (or-right (leb n i) _ e) k (le-of-suc-le-suc h)
+
+-- An accepted call has room.
+
+abbrev Fits : ℕ → List ℕ → ℕ → Type 0
+Fits n list room = ((k : ℕ) → k < length list → getD list k 0 < n) × (length list ≤ 64) × (length list ≤ room)
+
+given-fits : (n : ℕ) (list s : List ℕ) (room : ℕ) → callRefusal n (give list s room) ≡ 0 → Fits n list room
+unfolding callRefusal
+given-fits n list s room e =
+    let r = passed (badRow n) 14 _ e (omega arith) in
+    let u = passed (unknown n list) 15 _ (r .1) (omega arith) in
+    let m = passed (misgiven list s room) 16 _ (u .1) (omega arith) .0 in
+    let most = or-right (isTick (readOf s)) _ (or-left (isTick (readOf s) || ltb 64 (length list)) _ m) in
+    (known-at n list (u .0), ltb-false 64 _ most, ltb-false room _ (or-right (isTick (readOf s) || ltb 64 (length list)) _ m))
+
+ticked-fits : (n room : ℕ) → callRefusal n (tick room) ≡ 0 → (n ≤ 64) × (n ≤ room)
+unfolding callRefusal
+ticked-fits n room e =
+    let r = passed (badRow n) 14 _ e (omega arith) in
+    let m = passed (ltb room n) 16 _ (r .1) (omega arith) in
+    (ltb-false 64 n (or-right (ltb n 1) _ (r .0)), ltb-false room n (m .0))
+
+-- The turns of a call, by their number and each by its place.
+
+length-places : (i n : ℕ) → length (placesFrom i n) ≡ n
+length-places i zero = refl
+length-places i (suc n) = ap suc (length-places (i + 1) n)
+
+place-at : (i n k : ℕ) → k < n → getD (placesFrom i n) k 0 ≡ i + k
+place-at i zero k h = absurd (not-suc-le-zero h)
+place-at i (suc n) zero h = omega arith
+place-at i (suc n) (suc k) h = place-at (i + 1) n k (le-of-suc-le-suc h) ∙ omega arith
+
+-- What a walk over the turns `ts` of a call on `n` drives knows of them: there are `stop`, no more than the answer row has places, and
+-- the `k`-th gives the bytes `s` to the drive at place `p k`.
+pub record Turns (n places : ℕ) (s : List ℕ) (p : ℕ → ℕ) (stop : ℕ) (ts : List Turn) : Type 0 where
+  pub count : length ts ≡ stop
+  pub few : stop ≤ 64
+  pub room : stop ≤ places
+  pub below : (k : ℕ) → k < stop → p k < n
+  pub each : (k : ℕ) → k < stop → getD ts k (turn s 0) ≡ turn s (p k)
+
+no-turns : (n room : ℕ) (s : List ℕ) (p : ℕ → ℕ) → Turns n room s p 0 []
+no-turns n room s p =
+    record {
+      count = refl;
+      few = omega arith;
+      room = omega arith;
+      below = λ k h. absurd (not-suc-le-zero h);
+      each = λ k h. absurd (not-suc-le-zero h);
+    }
+
+pub give-turns : (n room : ℕ) (s list : List ℕ) (stop : ℕ) → stop ≡ pick (eqb (callRefusal n (give list s room)) 0) (length list) 0
+    → Turns n room s (λ k. getD list k 0) stop (turnsOf n (give list s room))
+unfolding turnsOf
+give-turns n room s list stop e =
+    rw e
+    (cases (eqb (callRefusal n (give list s room)) 0)
+    (λ h. rw h
+    (let f = given-fits n list s room (eqb-true _ 0 h) in
+    record {
+      count = length-map list (turn s);
+      few = f .1;
+      room = f .2;
+      below = f .0;
+      each = λ k l. List·getD-map (turn s) list k 0;
+    }))
+    (λ h. rw h (no-turns n room s _)))
+
+pub tick-turns : (n room stop : ℕ) → stop ≡ pick (eqb (callRefusal n (tick room)) 0) n 0
+    → Turns n room tickBytes (λ k. k) stop (turnsOf n (tick room))
+unfolding turnsOf
+tick-turns n room stop e =
+    rw e
+    (cases (eqb (callRefusal n (tick room)) 0)
+    (λ h. rw h
+    (let f = ticked-fits n room (eqb-true _ 0 h) in
+    record {
+      count = length-map (placesFrom 0 n) (turn tickBytes) ∙ length-places 0 n;
+      few = f .0;
+      room = f .1;
+      below = λ k l. l;
+      each = λ k l. List·getD-map (turn tickBytes) (placesFrom 0 n) k 0 ∙ ap (turn tickBytes) (place-at 0 n k l ∙ zero-add k);
+    }))
+    (λ h. rw h (no-turns n room tickBytes _)))
+
+-- Turns in two parts: the second are taken on the row that the first left.
+
+pub row-append : (step : Step) (row : List Drive) (ts us : List Turn) → rowAfter step row (ts ++ us) ≡ rowAfter step (rowAfter step row ts) us
+unfolding rowAfter
+row-append step row [] us = refl
+row-append step row (t ∷ ts) us = row-append step (set row (t .place) (step (at row (t .place)) (t .bytes) .drive)) ts us
+
+pub turned-append : (step : Step) (row : List Drive) (ts us : List Turn)
+    → turned step row (ts ++ us) ≡ turned step row ts ++ turned step (rowAfter step row ts) us
+unfolding turned rowAfter
+turned-append step row [] us = refl
+turned-append step row (t ∷ ts) us = rw (turned-append step (set row (t .place) (step (at row (t .place)) (t .bytes) .drive)) ts us)
+
+-- the row keeps its length, and each turn gives one outcome
+pub row-length : (step : Step) (row : List Drive) (ts : List Turn) → length (rowAfter step row ts) ≡ length row
+unfolding rowAfter
+row-length step row [] = refl
+row-length step row (t ∷ ts) =
+    let d = step (at row (t .place)) (t .bytes) .drive in
+    row-length step (set row (t .place) d) ts ∙ length-set row (t .place) d
+
+pub turned-length : (step : Step) (row : List Drive) (ts : List Turn) → length (turned step row ts) ≡ length ts
+unfolding turned
+turned-length step row [] = refl
+turned-length step row (t ∷ ts) = ap suc (turned-length step (set row (t .place) (step (at row (t .place)) (t .bytes) .drive)) ts)
+
+pub answers-length : (number : Answer → ℕ) (os : List Outcome) (row : List ℕ) → length os ≤ length row → length (answersIn number os row) ≡ length row
+unfolding answersIn
+answers-length number os row h = simp (length-append, length-map, length-drop) (omega arith)
+
+-- A walk after `k` turns: the row of drives, the answer row, and both after one more.
+module _ (step : Step) (number : Answer → ℕ) (row : List Drive) (answers : List ℕ) (ts : List Turn) where
+  abbrev pub rowBy : ℕ → List Drive
+  rowBy k = rowAfter step row (take k ts)
+
+  abbrev pub answersBy : ℕ → List ℕ
+  answersBy k = answersIn number (turned step row (take k ts)) answers
+
+  pub row-by-length : (k : ℕ) → length (rowBy k) ≡ length row
+  row-by-length k = row-length step row (take k ts)
+
+  module _ {n : ℕ} {s : List ℕ} {p : ℕ → ℕ} {stop : ℕ} (w : Turns n (length answers) s p stop ts) (k : ℕ) where
+    pub answers-by-length : k ≤ stop → length (answersBy k) ≡ length answers
+    answers-by-length h =
+        answers-length number _ answers (rw (turned-length step row (take k ts), length-take) (omega (arith, w .room)))
+
+    -- the outcome of the next turn
+    abbrev pub next : Outcome
+    next = step (at (rowBy k) (p k)) s
+
+    more : k < stop → take (k + 1) ts ≡ take k ts ++ (turn s (p k) ∷ [])
+    more h = rw (add-one, take-suc ts k (turn s 0) (rw (w .count) h), w .each k h)
+
+    pub row-turn : k < stop → set (rowBy k) (p k) (next .drive) ≡ rowBy (k + 1)
+    unfolding rowAfter
+    row-turn h = rw (more h, row-append)
+
+    pub answers-turn : k < stop → set (answersBy k) k (number (next .answer)) ≡ answersBy (k + 1)
+    unfolding turned
+    answers-turn h =
+        let size : k ≡ length (turned step row (take k ts)) = sym (turned-length step row (take k ts) ∙ length-take-le k ts (omega (arith, w .count))) in
+        answers-more number _ answers next (omega (arith, w .room)) size refl refl ∙ rw (more h, turned-append)
+
+  -- all turns taken
+  pub row-all : (k : ℕ) → k ≡ length ts → rowBy k ≡ rowAfter step row ts
+  row-all k e = rw (e, take-length)
+
+  pub answers-all : (k : ℕ) → k ≡ length ts → answersBy k ≡ answersIn number (turned step row ts) answers
+  answers-all k e = rw (e, take-length)
