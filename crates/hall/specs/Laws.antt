@@ -18,7 +18,7 @@ use Rattle.damper.specs.declared.Drive.{Drive}
 use Rattle.damper.specs.declared.Outcome.{Outcome}
 use Rattle.damper.specs.Carry.{Step, answersIn}
 use Rattle.damper.specs.CarryLaws.{answers-more}
-use Rattle.hall.specs.Hall.{Call, give, tick, badRow, unknown, isTick, misgiven, callRefusal, Turn, turn, placesFrom, tickBytes, turnsAsked, turnsOf, at, turned, rowAfter}
+use Rattle.hall.specs.Hall.{Call, give, tick, badRow, unknown, isTick, misgiven, callRefusal, Turn, turn, placesFrom, tickBytes, turnsAsked, turnsOf, at, turned, rowAfter, answerNumber, answersAfter}
 
 -- the numbers of a list from `k` on: the one at `k`, and those behind it
 pub unknown-here : (n k : ℕ) (list : List ℕ) → k < length list → n ≤ getD list k 0 → unknown n (drop k list) ≡ true
@@ -155,42 +155,57 @@ pub answers-length : (number : Answer → ℕ) (os : List Outcome) (row : List �
 unfolding answersIn
 answers-length number os row h = simp (length-append, length-map, length-drop) (omega arith)
 
--- A walk after `k` turns: the row of drives, the answer row, and both after one more.
-module _ (step : Step) (number : Answer → ℕ) (row : List Drive) (answers : List ℕ) (ts : List Turn) where
+-- A walk over the turns of a call, after `k` of them: the row of drives and the answer row, at the start, after one more turn and at
+-- the end.
+module _ (step : Step) (row : List Drive) (c : Call) (answers : List ℕ) where
+  abbrev ts : List Turn
+  ts = turnsOf (length row) c
+
   abbrev pub rowBy : ℕ → List Drive
   rowBy k = rowAfter step row (take k ts)
 
   abbrev pub answersBy : ℕ → List ℕ
-  answersBy k = answersIn number (turned step row (take k ts)) answers
+  answersBy k = answersIn (answerNumber c) (turned step row (take k ts)) answers
 
-  pub row-by-length : (k : ℕ) → length (rowBy k) ≡ length row
-  row-by-length k = row-length step row (take k ts)
+  pub row-start : row ≡ rowBy 0
+  unfolding rowAfter
+  row-start = refl
 
-  module _ {n : ℕ} {s : List ℕ} {p : ℕ → ℕ} {stop : ℕ} (w : Turns n (length answers) s p stop ts) (k : ℕ) where
-    pub answers-by-length : k ≤ stop → length (answersBy k) ≡ length answers
-    answers-by-length h =
-        answers-length number _ answers (rw (turned-length step row (take k ts), length-take) (omega (arith, w .room)))
+  pub answers-start : answers ≡ answersBy 0
+  unfolding turned answersIn
+  answers-start = refl
+
+  module _ {s : List ℕ} {p : ℕ → ℕ} {stop : ℕ} (w : Turns (length row) (length answers) s p stop ts) where
+    pub row-by-length : (k : ℕ) → length (rowBy k) ≡ length row
+    row-by-length k = row-length step row (take k ts)
+
+    pub answers-by-length : (k : ℕ) → k ≤ stop → length (answersBy k) ≡ length answers
+    answers-by-length k h =
+        answers-length (answerNumber c) _ answers (rw (turned-length step row (take k ts), length-take) (omega (arith, w .room)))
 
     -- the outcome of the next turn
-    abbrev pub next : Outcome
-    next = step (at (rowBy k) (p k)) s
+    abbrev pub next : ℕ → Outcome
+    next k = step (at (rowBy k) (p k)) s
 
-    more : k < stop → take (k + 1) ts ≡ take k ts ++ (turn s (p k) ∷ [])
-    more h = rw (add-one, take-suc ts k (turn s 0) (rw (w .count) h), w .each k h)
+    more : (k : ℕ) → k < stop → take (k + 1) ts ≡ take k ts ++ (turn s (p k) ∷ [])
+    more k h = rw (add-one, take-suc ts k (turn s 0) (rw (w .count) h), w .each k h)
 
-    pub row-turn : k < stop → set (rowBy k) (p k) (next .drive) ≡ rowBy (k + 1)
+    pub row-turn : (k : ℕ) → k < stop → set (rowBy k) (p k) (next k .drive) ≡ rowBy (k + 1)
     unfolding rowAfter
-    row-turn h = rw (more h, row-append)
+    row-turn k h = rw (more k h, row-append)
 
-    pub answers-turn : k < stop → set (answersBy k) k (number (next .answer)) ≡ answersBy (k + 1)
+    pub answers-turn : (k : ℕ) → k < stop → set (answersBy k) k (answerNumber c (next k .answer)) ≡ answersBy (k + 1)
     unfolding turned
-    answers-turn h =
+    answers-turn k h =
         let size : k ≡ length (turned step row (take k ts)) = sym (turned-length step row (take k ts) ∙ length-take-le k ts (omega (arith, w .count))) in
-        answers-more number _ answers next (omega (arith, w .room)) size refl refl ∙ rw (more h, turned-append)
+        answers-more (answerNumber c) _ answers (next k) (omega (arith, w .room)) size refl refl ∙ rw (more k h, turned-append)
 
-  -- all turns taken
-  pub row-all : (k : ℕ) → k ≡ length ts → rowBy k ≡ rowAfter step row ts
-  row-all k e = rw (e, take-length)
+    pub row-end : (k : ℕ) → k ≡ stop → rowBy k ≡ rowAfter step row ts
+    row-end k e = rw (e, ← (w .count), take-length)
 
-  pub answers-all : (k : ℕ) → k ≡ length ts → answersBy k ≡ answersIn number (turned step row ts) answers
-  answers-all k e = rw (e, take-length)
+    pub answers-end : (k : ℕ) → k ≡ stop → answersBy k ≡ answersAfter step row c answers
+    unfolding answersAfter
+    answers-end k e = rw (e, ← (w .count), take-length)
+
+    pub answers-end-length : length (answersAfter step row c answers) ≡ length answers
+    answers-end-length = ap length (sym (answers-end stop refl)) ∙ answers-by-length stop (omega arith)

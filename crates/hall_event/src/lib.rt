@@ -42,8 +42,7 @@ fn number_of(a: Answer) -> u8
 
 // One drive's turn.
 fn give_one(d: Drive, s: &[u8]) -> Given
-    ensures drive { λ r. ⌜ r .drive ≡ stepOf d (now (s .entry)) .drive ⌝ }
-    ensures number { λ r. ⌜ r .number ≡ numberOf (stepOf d (now (s .entry)) .answer) ⌝ }
+    ensures { λ r. ⌜ (r .drive ≡ stepOf d (now (s .entry)) .drive) × (r .number ≡ numberOf (stepOf d (now (s .entry)) .answer)) ⌝ }
 {
     let o = d.step(s);
     let next = o.drive;
@@ -58,9 +57,9 @@ fn give_one(d: Drive, s: &[u8]) -> Given
 // each entry. Refused by 14, 15 or 16, it changes nothing.
 #[no_mangle]
 pub extern "C" fn damper_hall_event(row: &mut [Drive], list: &[u32], s: &[u8], answers: &mut [u8]) -> u8
-    ensures answer { λ r. ⌜ r ≡ callRefusal (length (now (row .entry))) (give (now (list .entry)) (now (s .entry)) (length (now (answers .entry)))) ⌝ }
-    ensures drives { λ _. ⌜ now (row .exit) ≡ rowAfter stepOf (now (row .entry)) (turnsOf (length (now (row .entry))) (give (now (list .entry)) (now (s .entry)) (length (now (answers .entry))))) ⌝ }
-    ensures answers { λ _. ⌜ now (answers .exit) ≡ answersAfter stepOf (now (row .entry)) (give (now (list .entry)) (now (s .entry)) (length (now (answers .entry)))) (now (answers .entry)) ⌝ }
+    ensures { λ r. ⌜ (r ≡ callRefusal (length (now (row .entry))) (give (now (list .entry)) (now (s .entry)) (length (now (answers .entry)))))
+        × (now (row .exit) ≡ rowAfter stepOf (now (row .entry)) (turnsOf (length (now (row .entry))) (give (now (list .entry)) (now (s .entry)) (length (now (answers .entry))))))
+        × (now (answers .exit) ≡ answersAfter stepOf (now (row .entry)) (give (now (list .entry)) (now (s .entry)) (length (now (answers .entry)))) (now (answers .entry))) ⌝ }
 {
     let refusal = hall::event_refusal(row.len(), list, s, answers.len());
     let stop = hall::turns(refusal, list.len());

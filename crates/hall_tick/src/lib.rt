@@ -41,8 +41,7 @@ fn number_of(a: Answer) -> u32
 
 // One drive's turn.
 fn tick_one(d: Drive) -> Ticked
-    ensures drive { λ r. ⌜ r .drive ≡ stepOf d tickBytes .drive ⌝ }
-    ensures number { λ r. ⌜ r .number ≡ tickNumber (stepOf d tickBytes .answer) ⌝ }
+    ensures { λ r. ⌜ (r .drive ≡ stepOf d tickBytes .drive) × (r .number ≡ tickNumber (stepOf d tickBytes .answer)) ⌝ }
 {
     let bytes: [u8; 6] = [0x5A, 0xC3, 1, 0, 0, 0];
     let o = d.step(&bytes);
@@ -57,9 +56,9 @@ fn tick_one(d: Drive) -> Ticked
 // Ticks each drive of the row, in order, and fills one number for each. Refused by 14 or 16, it changes nothing.
 #[no_mangle]
 pub extern "C" fn damper_hall_tick(row: &mut [Drive], numbers: &mut [u32]) -> u8
-    ensures answer { λ r. ⌜ r ≡ callRefusal (length (now (row .entry))) (tick (length (now (numbers .entry)))) ⌝ }
-    ensures drives { λ _. ⌜ now (row .exit) ≡ rowAfter stepOf (now (row .entry)) (turnsOf (length (now (row .entry))) (tick (length (now (numbers .entry))))) ⌝ }
-    ensures numbers { λ _. ⌜ now (numbers .exit) ≡ answersAfter stepOf (now (row .entry)) (tick (length (now (numbers .entry)))) (now (numbers .entry)) ⌝ }
+    ensures { λ r. ⌜ (r ≡ callRefusal (length (now (row .entry))) (tick (length (now (numbers .entry)))))
+        × (now (row .exit) ≡ rowAfter stepOf (now (row .entry)) (turnsOf (length (now (row .entry))) (tick (length (now (numbers .entry))))))
+        × (now (numbers .exit) ≡ answersAfter stepOf (now (row .entry)) (tick (length (now (numbers .entry)))) (now (numbers .entry))) ⌝ }
 {
     let refusal = hall::tick_refusal(row.len(), numbers.len());
     let stop = hall::turns(refusal, row.len());
