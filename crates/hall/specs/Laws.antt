@@ -72,6 +72,11 @@ place-at i zero k h = absurd (not-suc-le-zero h)
 place-at i (suc n) zero h = omega arith
 place-at i (suc n) (suc k) h = place-at (i + 1) n k (le-of-suc-le-suc h) ∙ omega arith
 
+-- a call has no more turns than it asks for
+pub turns-most : (b : Bool) (n : ℕ) → pick b n 0 ≤ n
+turns-most true n = omega arith
+turns-most false n = omega arith
+
 -- What a walk over the turns `ts` of a call on `n` drives knows of them: there are `stop`, no more than the answer row has places, and
 -- the `k`-th gives the bytes `s` to the drive at place `p k`.
 pub record Turns (n places : ℕ) (s : List ℕ) (p : ℕ → ℕ) (stop : ℕ) (ts : List Turn) : Type 0 where
