@@ -1,0 +1,97 @@
+-- For every step, every row of drives and every list of calls: a place ends with the drive, and its turns got the answers, that the
+-- list of its share gives to the drive that stood there.
+use mathlib.Core.Path.{_≡_, refl, sym, ap, _∙_}
+use mathlib.Core.List.{List, [], _∷_}
+use Prim.Native.Nat.{ℕ, _<_}
+use lib.Dec.{eqb}
+use lib.ListN.{length, set}
+use lib.Seq.{getD-set-same, getD-set-other, lt-length-set}
+use borrow.Author.Tests.{eqb-true, eqb-false, ne-eqb}
+use Rattle.numbers.specs.Laws.{cases}
+use Rattle.damper.specs.declared.Drive.{Drive}
+use Rattle.damper.specs.Record.{freshDrive}
+use Rattle.damper.specs.Carry.{Step, outcomes, driveAfter}
+use Rattle.hall.specs.Hall.{Call, callRefusal, Turn, turnsOf, at, turned, rowAfter, turnsIn, hallAfter, hallTurned, sharedOut, ownOf, share, own}
+use Rattle.hall.specs.Laws.{row-append, turned-append, row-length}
+
+-- a call that is refused itself has no turns
+refused-turns : (n : ℕ) (c : Call) → (callRefusal n c ≡ 0 → ⊥) → turnsOf n c ≡ []
+unfolding turnsOf
+refused-turns n c r = rw (ne-eqb (callRefusal n c) 0 r)
+
+-- "a hall call refused itself belongs to no share"
+pub refused-share : (n : ℕ) (c : Call) (cs : List Call) (i : ℕ) → (callRefusal n c ≡ 0 → ⊥) → share n i (c ∷ cs) ≡ share n i cs
+unfolding turnsIn
+refused-share n c cs i r = rw (refused-turns n c r)
+
+module _ (step : Step) where
+  -- and there "nothing is touched"
+  pub refused-row : (row : List Drive) (c : Call) (cs : List Call) → (callRefusal (length row) c ≡ 0 → ⊥)
+      → hallAfter step row (c ∷ cs) ≡ hallAfter step row cs
+  unfolding hallAfter rowAfter
+  refused-row row c cs r = rw (refused-turns (length row) c r)
+
+  -- a list of calls does what the turns of them all do
+  hall-row : (row : List Drive) (cs : List Call) → hallAfter step row cs ≡ rowAfter step row (turnsIn (length row) cs)
+  unfolding hallAfter rowAfter turnsIn
+  hall-row row [] = refl
+  hall-row row (c ∷ cs) =
+      let ts = turnsOf (length row) c in
+      hall-row (rowAfter step row ts) cs ∙ rw (row-length step row ts, row-append step row ts (turnsIn (length row) cs))
+
+  hall-turned : (row : List Drive) (cs : List Call) → hallTurned step row cs ≡ turned step row (turnsIn (length row) cs)
+  unfolding hallTurned turned turnsIn
+  hall-turned row [] = refl
+  hall-turned row (c ∷ cs) =
+      let ts = turnsOf (length row) c in
+      rw (turned-append step row ts (turnsIn (length row) cs), hall-turned (rowAfter step row ts) cs, row-length step row ts)
+
+  -- the row after one turn; what it has at the turn's place, and at another
+  abbrev rowTurned : List Drive → Turn → List Drive
+  rowTurned row t = set row (t .place) (step (at row (t .place)) (t .bytes) .drive)
+
+  here : (row : List Drive) (t : Turn) (i : ℕ) → i < length row → t .place ≡ i → at (rowTurned row t) i ≡ step (at row i) (t .bytes) .drive
+  here row t i h e = rw e (getD-set-same row i _ freshDrive h)
+
+  elsewhere : (row : List Drive) (t : Turn) (i : ℕ) → (t .place ≡ i → ⊥) → at (rowTurned row t) i ≡ at row i
+  elsewhere row t i n = getD-set-other row (t .place) i _ freshDrive (λ e. n (sym e))
+
+  turns-drive : (row : List Drive) (ts : List Turn) (i : ℕ) → i < length row
+      → at (rowAfter step row ts) i ≡ driveAfter (at row i) (outcomes step (at row i) (sharedOut i ts))
+  unfolding rowAfter sharedOut outcomes driveAfter
+  turns-drive row [] i h = refl
+  turns-drive row (t ∷ ts) i h =
+      turns-drive (rowTurned row t) ts i (lt-length-set row (t .place) _ h)
+      ∙ cases (eqb (t .place) i)
+      (λ q. rw (q, here row t i h (eqb-true _ i q)))
+      (λ q. rw (q, elsewhere row t i (eqb-false _ i q)))
+
+  turns-answers : (row : List Drive) (ts : List Turn) (i : ℕ) → i < length row
+      → ownOf i ts (turned step row ts) ≡ outcomes step (at row i) (sharedOut i ts)
+  unfolding turned sharedOut ownOf outcomes
+  turns-answers row [] i h = refl
+  turns-answers row (t ∷ ts) i h =
+      let rest = turns-answers (rowTurned row t) ts i (lt-length-set row (t .place) _ h) in
+      cases (eqb (t .place) i)
+      (λ q. rw (q, rest, here row t i h (eqb-true _ i q), eqb-true _ i q))
+      (λ q. rw (q, rest, elsewhere row t i (eqb-false _ i q)))
+
+  -- the row keeps its length
+  pub hall-length : (row : List Drive) (cs : List Call) → length (hallAfter step row cs) ≡ length row
+  hall-length row cs = ap length (hall-row row cs) ∙ row-length step row (turnsIn (length row) cs)
+
+  -- The drive at a place is the one that its share leaves from the drive that stood there.
+  pub share-drive : (row : List Drive) (cs : List Call) (i : ℕ) → i < length row
+      → at (hallAfter step row cs) i ≡ driveAfter (at row i) (outcomes step (at row i) (share (length row) i cs))
+  share-drive row cs i h = rw (hall-row row cs) (turns-drive row (turnsIn (length row) cs) i h)
+
+  -- What its turns gave is what its share gives from that drive.
+  pub share-answers : (row : List Drive) (cs : List Call) (i : ℕ) → i < length row
+      → own step row i cs ≡ outcomes step (at row i) (share (length row) i cs)
+  share-answers row cs i h = rw (hall-turned row cs) (turns-answers row (turnsIn (length row) cs) i h)
+
+  -- "A drive not named keeps every field."
+  pub unnamed-kept : (row : List Drive) (cs : List Call) (i : ℕ) → i < length row → share (length row) i cs ≡ []
+      → at (hallAfter step row cs) i ≡ at row i
+  unfolding outcomes driveAfter
+  unnamed-kept row cs i h e = share-drive row cs i h ∙ rw e

@@ -1,0 +1,161 @@
+-- A hall of three by computation: a fresh drive, one that is not well formed and one that is open, under calls with repeats,
+-- refused ones and two hall ticks.
+use mathlib.Core.Path.{_≡_, refl}
+use mathlib.Core.List.{List, [], _∷_, map}
+use Prim.Native.Nat.{ℕ, _+_, _*_}
+use lib.Count.{leadingZeros}
+use lib.ListN.{length, replicate, set}
+use Rattle.table.specs.Table.{freshValues, allIn, placeFrom}
+use Rattle.event.specs.Event.{formOf, dataRefusal, recordRefusal, readOf}
+use Rattle.motion.specs.Motion.{toPosition, toPercent, runTicks, toward, motor}
+use Rattle.rules.specs.Commands.{noCommands, interlocked, commandsFit}
+use Rattle.rules.specs.Rank.{rulingRank, activeByte, backupTarget, targets}
+use Rattle.rules.specs.Report.{status}
+use Rattle.rules.specs.Refusal.{stateRefusal, refusal}
+use Rattle.answer.specs.declared.Answer.{Answer}
+use Rattle.answer.specs.declared.Answer.the-variants.{Done, Par, Report}
+use Rattle.damper.specs.declared.Drive.{Drive}
+use Rattle.damper.specs.declared.Outcome.{Outcome}
+use Rattle.damper.specs.Record.{drive, last, noRun, freshDrive, withPosition}
+use Rattle.damper.specs.WellFormed.{runFits, lastFits, wellFormed}
+use Rattle.damper.specs.Tick.{aged, targetAt, moved, ranDown, advance, dueWith}
+use Rattle.damper.specs.Step.{outcome, tickWith, ticked, commanded, calibrated, restarted, obeyed, applied, refusalOf, stepOf}
+use Rattle.damper.specs.Carry.{Step, answersIn}
+use Rattle.hall.specs.Hall as H
+use Rattle.hall.specs.Hall.{Call, give, unknown, callRefusal, turnsOf, at, turned, rowAfter, answersAfter, turnsIn, hallAfter, hallTurned, sharedOut, ownOf, share, own}
+use Rattle.history.specs.Log.{entry}
+use Rattle.history.specs.Claim.{reportsFrom}
+
+-- `unfolding computation` opens drive and hall, so that a list of calls computes
+unfoldable computation : Unit {0}
+unfolding leadingZeros allIn placeFrom formOf dataRefusal recordRefusal readOf toPosition toPercent runTicks toward motor commandsFit rulingRank activeByte backupTarget targets status stateRefusal refusal runFits lastFits wellFormed aged targetAt moved ranDown advance dueWith tickWith ticked commanded calibrated restarted obeyed applied refusalOf stepOf answersIn unknown callRefusal turnsOf turned rowAfter answersAfter turnsIn hallAfter hallTurned sharedOut ownOf reportsFrom
+computation = tt
+
+-- the event records, as bytes
+abbrev tick : List ℕ
+tick = 0x5a ∷ 0xc3 ∷ 1 ∷ 0 ∷ 0 ∷ 0 ∷ []
+
+abbrev setpoint : ℕ → List ℕ
+setpoint a = 0x5a ∷ 0xc3 ∷ 2 ∷ a ∷ 0 ∷ 0 ∷ []
+
+abbrev calibration : List ℕ
+calibration = 0x5a ∷ 0xc3 ∷ 6 ∷ 0 ∷ 0 ∷ 0 ∷ []
+
+-- MinRepTime 1
+abbrev everyTick : List ℕ
+everyTick = 0x5a ∷ 0xc3 ∷ 8 ∷ 117 ∷ 0 ∷ 1 ∷ []
+
+-- forcing 4, which no event sets
+abbrev broken : Drive
+broken = drive 0 freshValues (interlocked noCommands 0 4) 0 noRun 0 (last 0 0 0)
+
+-- at position 200, with Rate 128, so that a run takes two ticks
+abbrev opened : Drive
+opened = drive 200 (set freshValues 9 128) noCommands 0 noRun 0 (last 0 0 0)
+
+abbrev hall : List Drive
+hall = freshDrive ∷ broken ∷ opened ∷ []
+
+abbrev calls : List Call
+calls =
+    give (0 ∷ 0 ∷ 2 ∷ []) everyTick 3
+    ∷ give (2 ∷ 0 ∷ 0 ∷ []) (setpoint 128) 4
+    -- there is no drive 3
+    ∷ give (0 ∷ 3 ∷ []) (setpoint 255) 2
+    ∷ give (2 ∷ 2 ∷ []) calibration 2
+    ∷ give (1 ∷ []) (setpoint 7) 1
+    -- a tick is no event for a list, and two answers have no room in a row of one
+    ∷ give (0 ∷ []) tick 1
+    ∷ give (0 ∷ 2 ∷ []) calibration 1
+    ∷ H.tick 3
+    -- nor three in a row of two
+    ∷ H.tick 2
+    ∷ H.tick 5
+    ∷ []
+
+-- which of them are refused
+pub refusals : map (callRefusal 3) calls ≡ 0 ∷ 0 ∷ 15 ∷ 0 ∷ 0 ∷ 16 ∷ 16 ∷ 0 ∷ 16 ∷ 0 ∷ []
+unfolding computation
+refusals = refl
+
+-- the three shares: a repeat counts twice, a refused call not at all
+pub shares : (share 3 0 calls ≡ everyTick ∷ everyTick ∷ setpoint 128 ∷ setpoint 128 ∷ tick ∷ tick ∷ [])
+    × (share 3 1 calls ≡ setpoint 7 ∷ tick ∷ tick ∷ [])
+    × (share 3 2 calls ≡ everyTick ∷ setpoint 128 ∷ calibration ∷ calibration ∷ tick ∷ tick ∷ [])
+unfolding computation
+shares = (refl, refl, refl)
+
+-- each call's answer row, which held 9 at each place before
+abbrev roomOf : Call → ℕ
+roomOf (give list s room) = room
+roomOf (H.tick room) = room
+
+abbrev answerRows : List Drive → List Call → List (List ℕ)
+answerRows row [] = []
+answerRows row (c ∷ cs) =
+    answersAfter stepOf row c (replicate (roomOf c) 9) ∷ answerRows (rowAfter stepOf row (turnsOf (length row) c)) cs
+
+-- "65,536 + 256 × position + status for a report"
+abbrev report : ℕ → ℕ → ℕ
+report p s = 65536 + 256 * p + s
+
+-- the fresh drive reports 5 and 10, the open one 72 in calibration and then 0; the broken one is refused by 1
+pub answers : answerRows hall calls
+    ≡ (0 ∷ 0 ∷ 0 ∷ [])
+    ∷ (0 ∷ 0 ∷ 0 ∷ 9 ∷ [])
+    ∷ (9 ∷ 9 ∷ [])
+    ∷ (0 ∷ 0 ∷ [])
+    ∷ (1 ∷ [])
+    ∷ (9 ∷ [])
+    ∷ (9 ∷ [])
+    ∷ (report 5 0 ∷ 1 ∷ report 72 4 ∷ [])
+    ∷ (9 ∷ 9 ∷ [])
+    ∷ (report 10 0 ∷ 1 ∷ report 0 0 ∷ 9 ∷ 9 ∷ [])
+    ∷ []
+unfolding computation
+answers = refl
+
+-- the broken drive keeps its record
+pub kept : at (hallAfter stepOf hall calls) 1 ≡ broken
+unfolding computation
+kept = refl
+
+-- position, run and ticks left of a drive
+abbrev standing : Drive → List ℕ
+standing d = d .position ∷ d .run .kind ∷ d .run .left ∷ []
+
+-- the fresh drive is on its way to 128, the open one is closed and its run is over
+pub stand : (standing (at (hallAfter stepOf hall calls) 0) ≡ 10 ∷ 0 ∷ 0 ∷ [])
+    × (standing (at (hallAfter stepOf hall calls) 2) ≡ 0 ∷ 0 ∷ 0 ∷ [])
+unfolding computation
+stand = (refl, refl)
+
+-- the answers of the fresh drive's own turns
+abbrev answersOf : List Outcome → List Answer
+answersOf os = map (λ (o : Outcome). o .answer) os
+
+pub owned : answersOf (own stepOf hall 0 calls) ≡ Done ∷ Done ∷ Done ∷ Done ∷ Report 5 1 1 0 ∷ Report 10 1 1 0 ∷ []
+unfolding computation
+owned = refl
+
+-- its reports, numbered within its share
+pub log : reportsFrom 0 (own stepOf hall 0 calls) ≡ entry 5 5 0 ∷ entry 6 10 0 ∷ []
+unfolding computation
+log = refl
+
+-- Of a drive named twice the second giving starts from the drive that the first left. A calibration leaves the same drive after two
+-- givings as after one, so that a step which counts has to show it.
+abbrev calibrating : List ℕ → List Call
+calibrating list = give list calibration 2 ∷ []
+
+pub same : at (hallAfter stepOf hall (calibrating (0 ∷ 0 ∷ []))) 0 ≡ at (hallAfter stepOf hall (calibrating (0 ∷ []))) 0
+unfolding computation
+same = refl
+
+abbrev counting : Step
+counting d s = outcome (withPosition d (d .position + 1)) (Par (d .position))
+
+pub twice : (answersOf (own counting hall 0 (calibrating (0 ∷ 0 ∷ []))) ≡ Par 0 ∷ Par 1 ∷ [])
+    × (at (hallAfter counting hall (calibrating (0 ∷ 0 ∷ []))) 0 .position ≡ 2)
+unfolding computation
+twice = (refl, refl)

@@ -1,0 +1,1 @@
+// No code: specs/ proves that each drive of a hall has the drive and the answers of its own share of the calls.
