@@ -384,6 +384,256 @@ static void replay(damper_drive fresh)
     CHECK(r.count == 1 && r.drive.commands.setpoint == 128);
 }
 
+/* The rows of a hall, longer than any call may use, and what they held before the call. */
+typedef struct {
+    damper_drive row[DAMPER_HALL_MOST + 1];
+    uint8_t answers[DAMPER_HALL_MOST + 6];
+    uint32_t numbers[DAMPER_HALL_MOST + 6];
+} hall;
+
+static hall now, was;
+
+#define UNSET 0x63 /* in each byte of answers and numbers, and in those of a drive that belong to no field */
+
+/* Every drive becomes this one. */
+static void fill_hall(damper_drive d)
+{
+    uint8_t bytes[sizeof d];
+    memcpy(bytes, &d, sizeof d);
+    bytes[1] = bytes[43] = UNSET;
+    memset(&now, UNSET, sizeof now);
+    for (size_t i = 0; i <= DAMPER_HALL_MOST; i++)
+        memcpy(&now.row[i], bytes, sizeof d);
+}
+
+static bool untouched(void)
+{
+    return !memcmp(&now, &was, sizeof now);
+}
+
+/* Whether the drives from one on, before another, have every byte that they had. */
+static bool kept(size_t from, size_t before)
+{
+    return !memcmp(now.row + from, was.row + from, (before - from) * sizeof now.row[0]);
+}
+
+/* Whether the answers and the numbers are as they were, from a place on. */
+static bool rest_kept(size_t answers, size_t numbers)
+{
+    return !memcmp(now.answers + answers, was.answers + answers, sizeof now.answers - answers) &&
+           !memcmp(now.numbers + numbers, was.numbers + numbers, sizeof now.numbers - numbers * sizeof now.numbers[0]);
+}
+
+/* Whether two drives agree in every field. */
+static bool same(damper_drive x, damper_drive y)
+{
+    return x.position == y.position && !memcmp(x.params, y.params, sizeof x.params) &&
+           !memcmp(&x.commands, &y.commands, sizeof x.commands) && x.age == y.age && !memcmp(&x.run, &y.run, sizeof x.run) &&
+           x.since == y.since && !memcmp(&x.last, &y.last, sizeof x.last);
+}
+
+static unsigned give_hall(size_t drives, const uint32_t *list, size_t entries, const uint8_t *bytes, size_t length,
+                          size_t places)
+{
+    memcpy(&was, &now, sizeof now);
+    return damper_hall_event(now.row, drives, list, entries, bytes, length, now.answers, places);
+}
+
+static unsigned tick_hall(size_t drives, size_t places)
+{
+    memcpy(&was, &now, sizeof now);
+    return damper_hall_tick(now.row, drives, now.numbers, places);
+}
+
+static const uint8_t a_tick[DAMPER_EVENT_LENGTH] = {DAMPER_MARK_0, DAMPER_MARK_1, DAMPER_KIND_TICK, 0, 0, 0};
+static const uint8_t a_setpoint[DAMPER_EVENT_LENGTH] = {DAMPER_MARK_0, DAMPER_MARK_1, DAMPER_KIND_SETPOINT, 128, 0, 0};
+
+#define SIX DAMPER_EVENT_LENGTH
+
+/* What an event does to the drives of a list, and what it answers. */
+static void hall_events(damper_drive fresh)
+{
+    damper_drive damaged = fresh, forced = after(fresh, DAMPER_KIND_FORCING, DAMPER_FORCING_TO_0, 0, 0);
+    damaged.commands.hand = 2;
+    const uint32_t two[2] = {2, 0}, all[4] = {3, 2, 1, 0}, twice[3] = {1, 0, 1};
+    const uint8_t calibration[SIX] = {DAMPER_MARK_0, DAMPER_MARK_1, DAMPER_KIND_CALIBRATION, 0, 0, 0};
+    const uint8_t read_position[SIX] = {DAMPER_MARK_0, DAMPER_MARK_1, DAMPER_KIND_READ_POSITION, 0, 0, 0};
+    const uint8_t read_rate[SIX] = {DAMPER_MARK_0, DAMPER_MARK_1, DAMPER_KIND_READ_PARAMETER, DAMPER_NUMBER_RATE, 0, 0};
+
+    fill_hall(fresh);
+    CHECK(give_hall(3, two, 2, a_setpoint, SIX, 2) == 0);
+    CHECK(same(now.row[0], with_setpoint(fresh, 128)) && same(now.row[2], with_setpoint(fresh, 128)));
+    CHECK(kept(1, 2) && kept(3, DAMPER_HALL_MOST + 1));
+    CHECK(now.answers[0] == 0 && now.answers[1] == 0 && rest_kept(2, 0));
+
+    /* The answers are in the list's order, and places to spare keep what they hold. */
+    fill_hall(fresh);
+    now.row[1] = forced;
+    now.row[2] = damaged;
+    CHECK(give_hall(4, all, 4, calibration, SIX, sizeof now.answers) == 0);
+    CHECK(now.answers[0] == 0 && now.answers[1] == DAMPER_REFUSAL_RECORD);
+    CHECK(now.answers[2] == DAMPER_REFUSAL_CALIBRATION && now.answers[3] == 0 && rest_kept(4, 0));
+    CHECK(now.row[0].run.left == 51 && same(now.row[1], forced) && same(now.row[2], damaged) && now.row[3].run.left == 51);
+    CHECK(kept(4, DAMPER_HALL_MOST + 1));
+
+    /* A drive that is named twice gets two answers. */
+    fill_hall(fresh);
+    CHECK(give_hall(3, twice, 3, calibration, SIX, 3) == 0);
+    damper_drive once = after(fresh, DAMPER_KIND_CALIBRATION, 0, 0, 0);
+    CHECK(same(now.row[0], once) && same(now.row[1], after(once, DAMPER_KIND_CALIBRATION, 0, 0, 0)) && kept(2, 3));
+    CHECK(now.answers[0] == 0 && now.answers[1] == 0 && now.answers[2] == 0 && rest_kept(3, 0));
+    now.row[1] = damaged;
+    CHECK(give_hall(3, twice, 3, a_setpoint, SIX, 3) == 0);
+    CHECK(now.answers[0] == DAMPER_REFUSAL_RECORD && now.answers[1] == 0 && now.answers[2] == DAMPER_REFUSAL_RECORD);
+
+    /* A read hands nothing back. */
+    fill_hall(with_setpoint(fresh, 128));
+    CHECK(give_hall(4, all, 4, read_position, SIX, 4) == 0);
+    CHECK(same(now.row[0], was.row[0]) && now.answers[0] == 0 && now.answers[3] == 0 && rest_kept(4, 0));
+    CHECK(give_hall(4, all, 4, read_rate, SIX, 4) == 0);
+    CHECK(same(now.row[3], was.row[3]) && now.answers[0] == 0 && now.answers[3] == 0 && rest_kept(4, 0));
+
+    /* An empty list, of an event and of what is none. */
+    CHECK(give_hall(4, all, 0, a_setpoint, SIX, 0) == 0 && untouched());
+    CHECK(give_hall(4, all, 0, a_setpoint, SIX, 4) == 0 && untouched());
+    CHECK(give_hall(4, all, 0, a_setpoint, 0, 4) == 0 && untouched());
+    CHECK(give_hall(4, all, 0, a_tick, SIX - 1, 0) == 0 && untouched());
+
+    /* Ticks that the reader does not accept are refused by each drive. */
+    now.row[2] = damaged;
+    for (size_t byte = 0; byte < SIX; byte++) {
+        uint8_t bytes[SIX];
+        memcpy(bytes, a_tick, SIX);
+        bytes[byte] ^= 0x80;
+        unsigned refusal = byte < 2 ? DAMPER_REFUSAL_MARK : byte == 2 ? DAMPER_REFUSAL_KIND : DAMPER_REFUSAL_UNUSED;
+        CHECK(give_hall(4, all, 4, bytes, SIX, 4) == 0);
+        CHECK(now.answers[0] == refusal && now.answers[1] == DAMPER_REFUSAL_RECORD);
+        CHECK(now.answers[2] == refusal && now.answers[3] == refusal);
+        for (size_t i = 0; i < 4; i++)
+            CHECK(same(now.row[i], was.row[i]));
+    }
+    uint8_t longer[SIX + 1] = {0};
+    memcpy(longer, a_tick, SIX);
+    for (size_t length = 0; length <= SIX + 1; length++) {
+        if (length == SIX)
+            continue;
+        CHECK(give_hall(4, all, 1, longer, length, 1) == 0 && now.answers[0] == DAMPER_REFUSAL_LENGTH);
+        CHECK(same(now.row[3], was.row[3]));
+    }
+}
+
+/* Rows of 1 and 64, lists of 1 and 64, and the refusals 14 to 16: what fits each, and which comes first. */
+static void hall_refusals(damper_drive fresh)
+{
+    const size_t most = DAMPER_HALL_MOST;
+    const unsigned no_hall = DAMPER_HALL_REFUSAL_DRIVES, no_drive = DAMPER_HALL_REFUSAL_NUMBER;
+    const unsigned no_call = DAMPER_HALL_REFUSAL_CALL;
+    uint32_t list[DAMPER_HALL_MOST + 6];
+    for (uint32_t k = 0; k < DAMPER_HALL_MOST + 6; k++)
+        list[k] = k % DAMPER_HALL_MOST;
+    CHECK(most == 64 && no_hall == 14 && no_drive == 15 && no_call == 16);
+
+    fill_hall(fresh);
+    CHECK(give_hall(1, list, 1, a_setpoint, SIX, 1) == 0 && now.row[0].commands.setpoint == 128 && kept(1, most + 1));
+    fill_hall(fresh);
+    CHECK(give_hall(most, list, most, a_setpoint, SIX, most) == 0 && kept(most, most + 1) && rest_kept(most, 0));
+    for (size_t i = 0; i < most; i++)
+        CHECK(now.row[i].commands.setpoint == 128 && now.answers[i] == 0);
+
+    /* 14: no drive or over 64, also where 15 and 16 fit. */
+    fill_hall(fresh);
+    CHECK(give_hall(0, list, 0, a_setpoint, SIX, 6) == no_hall && untouched());
+    CHECK(give_hall(0, list, 1, a_tick, SIX, 0) == no_hall && untouched());
+    CHECK(give_hall(most + 1, list, 1, a_setpoint, SIX, 6) == no_hall && untouched());
+    CHECK(give_hall(most + 1, list, most + 6, a_tick, SIX, 0) == no_hall && untouched());
+    list[0] = UINT32_MAX;
+    CHECK(give_hall(most + 1, list, 1, a_setpoint, SIX, 6) == no_hall && untouched());
+
+    /* 15: no number is cut to a byte or to 16 bits before it is judged. */
+    const uint32_t bad[8] = {8, 9, 63, 256, 263, 65536 + 7, 0x80000000, UINT32_MAX};
+    for (size_t i = 0; i < 8; i++) {
+        list[0] = bad[i];
+        CHECK(give_hall(8, list, 1, a_setpoint, SIX, 1) == no_drive && untouched());
+    }
+    list[0] = 7;
+    CHECK(give_hall(8, list, 8, a_setpoint, SIX, 8) == 0);
+    CHECK(give_hall(7, list, 8, a_setpoint, SIX, 8) == no_drive && untouched());
+    list[0] = DAMPER_HALL_MOST;
+    CHECK(give_hall(most, list, 1, a_setpoint, SIX, 1) == no_drive && untouched());
+    list[0] = 1;
+    CHECK(give_hall(1, list, 1, a_setpoint, SIX, 1) == no_drive && untouched());
+    list[0] = 0;
+
+    /* Its place in the list does not matter, nor that 16 fits as well. */
+    for (size_t k = 0; k < most + 6; k++) {
+        uint32_t number = list[k];
+        list[k] = DAMPER_HALL_MOST;
+        CHECK(give_hall(most, list, most + 6, a_setpoint, SIX, most + 6) == no_drive && untouched());
+        CHECK(give_hall(most, list, k + 1, a_tick, SIX, k + 1) == no_drive && untouched());
+        CHECK(give_hall(most, list, k + 1, a_setpoint, SIX, k) == no_drive && untouched());
+        CHECK(give_hall(most, list, k + 1, a_tick, SIX - 1, k + 1) == no_drive && untouched());
+        list[k] = number;
+    }
+
+    /* 16: a tick, also with an empty list; a long list; few places. */
+    CHECK(give_hall(most, list, 1, a_tick, SIX, 1) == no_call && untouched());
+    CHECK(give_hall(most, list, 0, a_tick, SIX, 0) == no_call && untouched());
+    CHECK(give_hall(1, list, 0, a_tick, SIX, 6) == no_call && untouched());
+    CHECK(give_hall(most, list, most + 1, a_setpoint, SIX, most + 6) == no_call && untouched());
+    CHECK(give_hall(most, list, most + 1, a_tick, SIX, 0) == no_call && untouched());
+    CHECK(give_hall(most, list, 1, a_setpoint, SIX, 0) == no_call && untouched());
+    CHECK(give_hall(most, list, most, a_setpoint, SIX, most - 1) == no_call && untouched());
+    now.row[0].commands.hand = 2;
+    CHECK(give_hall(1, list, 1, a_tick, SIX, 1) == no_call && untouched());
+    CHECK(give_hall(1, list, 1, a_setpoint, 0, 0) == no_call && untouched());
+
+    fill_hall(fresh);
+    CHECK(tick_hall(0, 6) == no_hall && untouched() && tick_hall(0, 0) == no_hall && untouched());
+    CHECK(tick_hall(most + 1, most + 6) == no_hall && untouched() && tick_hall(most + 1, 0) == no_hall && untouched());
+    CHECK(tick_hall(1, 0) == no_call && untouched() && tick_hall(most, most - 1) == no_call && untouched());
+    CHECK(tick_hall(1, 1) == 0 && now.row[0].since == 1 && kept(1, most + 1) && rest_kept(0, 1));
+    CHECK(tick_hall(most, most) == 0 && now.row[0].since == 2 && kept(most, most + 1) && rest_kept(0, most));
+    for (size_t i = 1; i < most; i++)
+        CHECK(now.row[i].since == 1 && now.numbers[i] == DAMPER_HALL_SILENT);
+}
+
+/* The numbers of a tick, and the helpers that take them apart. */
+static void hall_numbers(damper_drive fresh)
+{
+    damper_drive quick = with_param(with_param(fresh, DAMPER_NUMBER_MIN_REP_TIME, 1), DAMPER_NUMBER_RATE, 255);
+    damper_drive damaged = fresh;
+    damaged.commands.hand = 2;
+    const damper_drive row[5] = {
+        fresh, damaged, after(quick, DAMPER_KIND_HAND, 1, 100, 0), with_setpoint(quick, 0),
+        after(quick, DAMPER_KIND_FORCING, DAMPER_FORCING_TO_255, 0, 0),
+    };
+    const uint32_t due[5] = {0, 1, 65536 + 256 * 100 + 34, 65536, 65536 + 256 * 255 + 48};
+    fill_hall(fresh);
+    memcpy(now.row, row, sizeof row);
+    CHECK(tick_hall(5, sizeof now.numbers / sizeof now.numbers[0]) == 0 && kept(5, DAMPER_HALL_MOST + 1) && rest_kept(0, 5));
+    for (size_t i = 0; i < 5; i++) {
+        damper_stepped s = give(row[i], DAMPER_KIND_TICK, 0, 0, 0);
+        uint32_t number = now.numbers[i];
+        CHECK(number == due[i] && same(now.row[i], s.drive));
+        CHECK((number == DAMPER_HALL_SILENT) == (i == 0) && (number == DAMPER_HALL_NOT_WELL_FORMED) == (i == 1));
+        CHECK(damper_hall_is_report(number) == damper_is_report(s.word));
+        CHECK(damper_hall_position(number) == (i < 2 ? 0 : damper_answer_position(s.word, s.code)));
+        CHECK(damper_hall_status(number) == (i < 2 ? 0 : damper_answer_status(s.word, s.code)));
+        CHECK(!damper_hall_is_report(number) ||
+              number == DAMPER_HALL_REPORT + 256u * damper_hall_position(number) + damper_hall_status(number));
+    }
+    CHECK(!damper_hall_is_report(DAMPER_HALL_REPORT - 1) && damper_hall_is_report(DAMPER_HALL_REPORT));
+    CHECK(damper_hall_position(130879) == 255 && damper_hall_status(130879) == 63);
+
+    /* Document 01's row m1, in each place of a hall. */
+    fill_hall(fresh);
+    for (int ticks = 1; ticks <= 10; ticks++) {
+        CHECK(tick_hall(3, 3) == 0);
+        for (size_t i = 0; i < 3; i++)
+            CHECK(now.numbers[i] == (ticks < 10 ? DAMPER_HALL_SILENT : DAMPER_HALL_REPORT + 32u));
+    }
+}
+
 static void null_pointers(damper_drive fresh)
 {
     uint8_t word = 9;
@@ -397,6 +647,14 @@ static void null_pointers(damper_drive fresh)
     CHECK(damper_replay(fresh, NULL, 0, &word, 1, &code, 1).count == 0);
     CHECK(damper_replay(fresh, record, sizeof record, NULL, 0, &code, 1).count == 0);
     CHECK(damper_replay(fresh, record, sizeof record, &word, 1, NULL, 0).count == 0 && word == 9 && code == 9);
+
+    const uint32_t list[1] = {0};
+    CHECK(damper_hall_event(NULL, 0, NULL, 0, NULL, 0, NULL, 0) == DAMPER_HALL_REFUSAL_DRIVES);
+    CHECK(damper_hall_event(&fresh, 1, NULL, 0, NULL, 0, NULL, 0) == 0);
+    CHECK(damper_hall_event(&fresh, 1, list, 1, NULL, 0, &word, 1) == 0 && word == DAMPER_REFUSAL_LENGTH);
+    CHECK(damper_hall_event(&fresh, 1, list, 1, NULL, 0, NULL, 0) == DAMPER_HALL_REFUSAL_CALL);
+    CHECK(damper_hall_tick(NULL, 0, NULL, 0) == DAMPER_HALL_REFUSAL_DRIVES);
+    CHECK(damper_hall_tick(&fresh, 1, NULL, 0) == DAMPER_HALL_REFUSAL_CALL && fresh.since == 0);
 }
 
 int main(void)
@@ -412,6 +670,9 @@ int main(void)
     answers(fresh);
     reader_and_writer();
     replay(fresh);
+    hall_events(fresh);
+    hall_refusals(fresh);
+    hall_numbers(fresh);
     null_pointers(fresh);
     printf("header in %s: %u checks agree with the archives\n",
 #ifdef __cplusplus

@@ -1,4 +1,4 @@
-/* The damper drive of document 01. */
+/* The damper drive of document 01, and the hall of request W-201. */
 #include "plain.h"
 
 #include <string.h>
@@ -391,4 +391,52 @@ size_t plain_replay(damper_drive *d, const uint8_t *bytes, size_t length, uint8_
         plain_step(d, bytes + at, length - at < DAMPER_EVENT_LENGTH ? length - at : DAMPER_EVENT_LENGTH, &words[done],
                    &codes[done]);
     return done;
+}
+
+/* The hall. */
+
+static bool hall_fits(size_t drives)
+{
+    return drives > 0 && drives <= DAMPER_HALL_MOST;
+}
+
+static bool is_tick(const uint8_t *bytes, size_t length)
+{
+    static const uint8_t good[DAMPER_EVENT_LENGTH] = {DAMPER_MARK_0, DAMPER_MARK_1, DAMPER_KIND_TICK, 0, 0, 0};
+    return length == sizeof good && memcmp(bytes, good, sizeof good) == 0;
+}
+
+uint8_t plain_hall_event(damper_drive *row, size_t drives, const uint32_t *list, size_t entries, const uint8_t *bytes,
+                         size_t length, uint8_t *answers, size_t places)
+{
+    if (!hall_fits(drives))
+        return DAMPER_HALL_REFUSAL_DRIVES;
+    for (size_t k = 0; k < entries; k++)
+        if (list[k] >= drives)
+            return DAMPER_HALL_REFUSAL_NUMBER;
+    if (is_tick(bytes, length) || entries > DAMPER_HALL_MOST || places < entries)
+        return DAMPER_HALL_REFUSAL_CALL;
+    for (size_t k = 0; k < entries; k++) {
+        answer given = step(&row[list[k]], bytes, length);
+        answers[k] = damper_answer_refusal(given.word, given.code);
+    }
+    return 0;
+}
+
+uint8_t plain_hall_tick(damper_drive *row, size_t drives, uint32_t *numbers, size_t places)
+{
+    if (!hall_fits(drives))
+        return DAMPER_HALL_REFUSAL_DRIVES;
+    if (places < drives)
+        return DAMPER_HALL_REFUSAL_CALL;
+    for (size_t i = 0; i < drives; i++) {
+        damper_drive *d = &row[i];
+        if (!plain_well_formed(d))
+            numbers[i] = DAMPER_HALL_NOT_WELL_FORMED;
+        else if (damper_is_report(tick(d).word))
+            numbers[i] = DAMPER_HALL_REPORT + 256u * d->last.position + d->last.status;
+        else
+            numbers[i] = DAMPER_HALL_SILENT;
+    }
+    return 0;
 }

@@ -3,44 +3,14 @@
  * records, records of random bytes, and well-formed records with one byte changed; well-formedness, answer and every field
  * after an event must agree.
  */
+#include "compare.h"
 #include "plain.h"
 
 #include <stdio.h>
 #include <stdlib.h>
 #include <string.h>
 
-/* An event record of 0 to 7 bytes. */
-typedef struct {
-    uint8_t bytes[7];
-    size_t length;
-} event;
-
 static unsigned long steps, well_formed, carried_out;
-
-/* Xorshift, always the same numbers. */
-static uint64_t random_state = 0x5AC35AC35AC35AC3;
-
-static uint32_t random_below(uint32_t n)
-{
-    random_state ^= random_state << 13;
-    random_state ^= random_state >> 7;
-    random_state ^= random_state << 17;
-    return (uint32_t)((random_state >> 32) * n >> 32);
-}
-
-static uint8_t random_byte(void)
-{
-    return (uint8_t)random_below(256);
-}
-
-static void show(const char *name, const void *start, size_t length)
-{
-    const uint8_t *bytes = start;
-    printf("  %s:", name);
-    for (size_t i = 0; i < length; i++)
-        printf(" %02X", bytes[i]);
-    printf("\n");
-}
 
 static void differ(const char *what, const damper_drive *before, const event *e, const damper_stepped *proved,
                    const damper_stepped *plain)
@@ -53,14 +23,6 @@ static void differ(const char *what, const damper_drive *before, const event *e,
     printf("  word and code: proved %u %08lX, plain %u %08lX\n", proved->word, (unsigned long)proved->code, plain->word,
            (unsigned long)plain->code);
     exit(1);
-}
-
-/* The groups have bytes only, or 16-bit numbers only, so no gap lies inside one. */
-static bool same(const damper_drive *x, const damper_drive *y)
-{
-    return x->position == y->position && !memcmp(x->params, y->params, sizeof x->params) &&
-           !memcmp(&x->commands, &y->commands, sizeof x->commands) && x->age == y->age &&
-           !memcmp(&x->run, &y->run, sizeof x->run) && x->since == y->since && !memcmp(&x->last, &y->last, sizeof x->last);
 }
 
 /* Gives whether the event was carried out. */
@@ -85,39 +47,6 @@ static bool compare(const damper_drive *before, const event *e)
     well_formed += fits;
     carried_out += proved.word != DAMPER_WORD_NO;
     return proved.word != DAMPER_WORD_NO;
-}
-
-static event event_of(uint8_t kind, uint8_t a, uint8_t b, uint8_t c)
-{
-    return (event){{DAMPER_MARK_0, DAMPER_MARK_1, kind, a, b, c}, DAMPER_EVENT_LENGTH};
-}
-
-/* Mostly one that is carried out; now and then one byte, or the length, is any. */
-static event random_event(void)
-{
-    uint8_t number = damper_parameters[random_below(DAMPER_PARAMETERS)].number;
-    uint8_t any = random_byte(), percent = (uint8_t)random_below(101);
-    uint8_t flag = (uint8_t)random_below(2), command = (uint8_t)random_below(3);
-    event e;
-    switch (random_below(16)) {
-    case 0: e = event_of(DAMPER_KIND_SETPOINT, any, 0, 0); break;
-    case 1: e = event_of(DAMPER_KIND_LTE_SETPOINT, DAMPER_LTE_PROPERTY(1), percent, command); break;
-    case 2: e = event_of(DAMPER_KIND_FORCING, (uint8_t)random_below(4), 0, 0); break;
-    case 3: e = event_of(DAMPER_KIND_HAND, flag, any, 0); break;
-    case 4: e = event_of(DAMPER_KIND_CALIBRATION, flag, 0, 0); break;
-    case 5: e = event_of(DAMPER_KIND_FAULT, flag, 0, 0); break;
-    case 6: e = event_of(DAMPER_KIND_WRITE, number, 0, (uint8_t)random_below(4)); break;
-    case 7: e = event_of(DAMPER_KIND_WRITE, number, 0, any); break;
-    case 8: e = event_of(DAMPER_KIND_RESTART, 0, 0, 0); break;
-    case 9: e = event_of(DAMPER_KIND_READ_POSITION, 0, 0, 0); break;
-    case 10: e = event_of(DAMPER_KIND_READ_PARAMETER, number, 0, 0); break;
-    default: e = event_of(DAMPER_KIND_TICK, 0, 0, 0); break;
-    }
-    if (random_below(16) == 0)
-        e.bytes[random_below(6)] = any;
-    if (random_below(64) == 0)
-        e.length = random_below(8);
-    return e;
 }
 
 /* Each value of each flag of a record, with a tick, a setpoint, a read and a restart. */

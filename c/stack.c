@@ -6,12 +6,11 @@
 #include "damper.h"
 
 #include <stdio.h>
-#include <stdlib.h>
 #include <string.h>
 
 #define ROOM 20000
 
-static _Alignas(16) uint8_t stack[8192];
+static _Alignas(16) uint8_t stack[65536];
 
 /* Runs a function on the painted stack. */
 static void on_stack(void (*run)(void))
@@ -38,6 +37,9 @@ static damper_stepped (*volatile step)(damper_drive, const uint8_t *, size_t);
 static damper_event (*volatile read_event)(const uint8_t *, size_t);
 static uint8_t (*volatile write_event)(uint8_t *, size_t, uint8_t, uint8_t, uint8_t, uint8_t);
 static damper_replayed (*volatile replay)(damper_drive, const uint8_t *, size_t, uint8_t *, size_t, uint32_t *, size_t);
+static uint8_t (*volatile hall_event)(damper_drive *, size_t, const uint32_t *, size_t, const uint8_t *, size_t, uint8_t *,
+                                      size_t);
+static uint8_t (*volatile hall_tick)(damper_drive *, size_t, uint32_t *, size_t);
 
 static damper_drive drive;
 static damper_stepped stepped;
@@ -47,6 +49,9 @@ static bool formed;
 static uint8_t events[ROOM][DAMPER_EVENT_LENGTH], *event, buffer[DAMPER_EVENT_LENGTH], written, words[ROOM];
 static uint32_t codes[ROOM];
 static size_t records;
+static damper_drive row[DAMPER_HALL_MOST];
+static uint32_t list[DAMPER_HALL_MOST], numbers[DAMPER_HALL_MOST];
+static uint8_t answers[DAMPER_HALL_MOST], refusal;
 
 static void call_fresh(void) { drive = fresh(); }
 static void call_well_formed(void) { formed = well_formed(drive); }
@@ -54,6 +59,13 @@ static void call_step(void) { stepped = step(drive, event, DAMPER_EVENT_LENGTH);
 static void call_read(void) { found = read_event(event, DAMPER_EVENT_LENGTH); }
 static void call_write(void) { written = write_event(buffer, sizeof buffer, event[2], event[3], event[4], event[5]); }
 static void call_replay(void) { replayed = replay(drive, events[0], records * DAMPER_EVENT_LENGTH, words, ROOM, codes, ROOM); }
+
+/* The whole row, and a list that names each drive. */
+static void call_hall_event(void)
+{
+    refusal = hall_event(row, DAMPER_HALL_MOST, list, DAMPER_HALL_MOST, event, DAMPER_EVENT_LENGTH, answers, DAMPER_HALL_MOST);
+}
+static void call_hall_tick(void) { refusal = hall_tick(row, DAMPER_HALL_MOST, numbers, DAMPER_HALL_MOST); }
 
 #define POINT(pointer, function) pointer = archive ? function : (__typeof__(&function))nothing
 
@@ -65,16 +77,33 @@ static void point(bool archive)
     POINT(read_event, damper_read);
     POINT(write_event, damper_write);
     POINT(replay, damper_replay);
+    POINT(hall_event, damper_hall_event);
+    POINT(hall_tick, damper_hall_tick);
 }
 
-/* The bytes from the deepest one without paint on, after calls over the list of events from a fresh drive. */
+/* A hall of fresh drives, the last of them damaged. */
+static void fill_hall(void)
+{
+    for (uint32_t i = 0; i < DAMPER_HALL_MOST; i++) {
+        row[i] = damper_fresh();
+        list[i] = DAMPER_HALL_MOST - 1 - i;
+    }
+    row[DAMPER_HALL_MOST - 1].commands.hand = 2;
+}
+
+/*
+ * The bytes from the deepest one without paint on, after calls over the list of events from a fresh drive. Of the hall each
+ * drive but the last becomes now and then what that drive is.
+ */
 static size_t depth(void (*call)(void), bool archive, size_t calls, uint8_t paint)
 {
     point(archive);
     memset(stack, paint, sizeof stack);
     drive = damper_fresh();
+    fill_hall();
     for (size_t i = 0; i < calls; i++) {
         event = events[i];
+        row[i % (DAMPER_HALL_MOST - 1)] = drive;
         on_stack(call);
         drive = damper_step(drive, event, DAMPER_EVENT_LENGTH).drive;
     }
@@ -91,14 +120,14 @@ static size_t deeper(void (*call)(void), bool archive, size_t calls)
     return x > y ? x : y;
 }
 
+static size_t deepest;
+
 static void measure(const char *name, void (*call)(void), size_t calls)
 {
     size_t taken = deeper(call, true, calls) - deeper(call, false, 1) + sizeof(void *);
     printf(" %s %zu", name, taken);
-    if (taken > DAMPER_STACK) {
-        printf("\nstack: that is more than DAMPER_STACK\n");
-        exit(1);
-    }
+    if (taken > deepest)
+        deepest = taken;
 }
 
 int main(void)
@@ -111,6 +140,11 @@ int main(void)
     measure("read", call_read, records);
     measure("write", call_write, records);
     measure("replay", call_replay, 1);
+    measure("hall_event", call_hall_event, records);
+    measure("hall_tick", call_hall_tick, records);
     printf("; DAMPER_STACK is %d\n", DAMPER_STACK);
-    return 0;
+    if (deepest <= DAMPER_STACK)
+        return 0;
+    printf("stack: one takes more than that\n");
+    return 1;
 }

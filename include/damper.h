@@ -1,6 +1,7 @@
 /*
  * The air-damper drive of document 01 (after KNX chapter 7/10/3, block ADA), written and proved in Rattle, for hosts in
- * C11 and C++ on x86-64 Linux. Link libhost.a for single events, libhost_replay.a for damper_replay, or both.
+ * C11 and C++ on x86-64 Linux. Link libhost.a for single events, libhost_replay.a for damper_replay, libhall_event.a and
+ * libhall_tick.a for the two calls of a hall, or any of these together: none needs another.
  *
  * A drive is a record of 44 bytes, and the host holds it. The host gives it event records of six bytes, one after the
  * other: a tick each second, and setpoints, forcing, hand, calibration, faults, parameter writes, restarts and reads as
@@ -14,15 +15,20 @@
  *     if (damper_is_report(s.word))
  *         printf("position %u\n", damper_answer_position(s.word, s.code));
  *
+ * A host of a hall holds up to 64 records in one row and lends it: damper_hall_event gives an event to the drives that a
+ * list names, damper_hall_tick ticks them all, and the records are changed where they are.
+ *
  * Of every function below holds:
  *   - A pointer is valid for its length; NULL will do for a length of 0. Bytes that are written to overlap no others that
- *     the call is lent. Apart from that nothing is asked: any bytes are a record, any bytes of any length an event record.
+ *     the call is lent, and nobody else uses them until it returns. Apart from that nothing is asked: any bytes are a
+ *     record, any bytes of any length an event record.
  *   - It returns, and what it gives depends on its arguments alone. It has no state, allocates nothing, calls nothing
  *     outside its archive and writes nothing but its result and the bytes lent for it, so any thread and any signal handler
  *     may call it at any time.
  *   - It takes at most DAMPER_STACK bytes of stack below the caller's frame, the red zone of the x86-64 ABI among them.
  *
- * Numbers are document 01's. A position is 0 to 255, where 255 is 100 %; a time is in ticks of a second.
+ * Numbers are document 01's, those of a hall request W-201's. A position is 0 to 255, where 255 is 100 %; a time is in ticks
+ * of a second.
  */
 #ifndef DAMPER_H
 #define DAMPER_H
@@ -39,6 +45,7 @@ extern "C" {
 #define DAMPER_EVENT_LENGTH 6 /* bytes of an event record */
 #define DAMPER_PARAMETERS 12  /* how many there are */
 #define DAMPER_STACK 512      /* bytes of stack that a call takes at most */
+#define DAMPER_HALL_MOST 64   /* drives of a hall, and entries of a list, at most */
 
 /* An event record: these two bytes, the kind, then data bytes a, b and c, of which unused ones are 0. */
 #define DAMPER_MARK_0 0x5A
@@ -186,6 +193,18 @@ enum damper_refusal {
     DAMPER_REFUSAL_CALIBRATION = 13 /* calibration: there is a fault, or forcing of 2 or 3 */
 };
 
+/* Why a call of a hall is turned down as a whole: the first that fits. No drive is given anything then. */
+enum damper_hall_refusal {
+    DAMPER_HALL_REFUSAL_DRIVES = 14, /* the row has no drive, or over DAMPER_HALL_MOST */
+    DAMPER_HALL_REFUSAL_NUMBER = 15, /* a number of the list is not below the row's length */
+    DAMPER_HALL_REFUSAL_CALL = 16    /* an accepted tick, a list over DAMPER_HALL_MOST, or too few places for the answers */
+};
+
+/* What damper_hall_tick says of a drive: one of the first two, or the third + 256 * position + status. */
+#define DAMPER_HALL_SILENT 0          /* a tick with no report */
+#define DAMPER_HALL_NOT_WELL_FORMED 1 /* no tick: the drive record is not well formed */
+#define DAMPER_HALL_REPORT 65536      /* a tick with a report */
+
 /*
  * The word of an answer. With it comes a code, whose bytes are these, from the highest on:
  *
@@ -309,6 +328,44 @@ damper_replayed damper_replay(damper_drive drive, const uint8_t *bytes, size_t l
                               size_t words_length, uint32_t *codes, size_t codes_length);
 
 /*
+ * libhall_event.a
+ */
+
+/*
+ * Gives one event record, of any kind but a tick, to the drives that the list names, in its order, and gives 0. A drive's
+ * number is its place in the row, from 0 on. What damper_step would make of the drive numbered list[k] then stands in its
+ * place, and answers[k] is 0 or the refusal, 1 to 13. A read answers 0 as well; its values are not handed back. A drive that
+ * is named twice is given the event twice, the second time as the first left it. Drives that are not named stay as they are,
+ * and so do the places of the answers from `entries` on.
+ *
+ * The first of the refusals 14 to 16 that fits turns the call down, and then both rows stay as they are:
+ *
+ *     14  drives is 0 or over 64
+ *     15  a number of the list, those beyond the 64th among them, is not below drives
+ *     16  the bytes are a tick that damper_read accepts, entries is over 64, or places is below entries
+ *
+ * Any other bytes go to each drive and, where they are no event, are refused there, a damaged tick among them. With an empty
+ * list nothing is given, and the call still gives 0, 14 or 16.
+ */
+uint8_t damper_hall_event(damper_drive *row, size_t drives, const uint32_t *list, size_t entries, const uint8_t *bytes,
+                          size_t length, uint8_t *answers, size_t places);
+
+/*
+ * libhall_tick.a
+ */
+
+/*
+ * Ticks every drive of the row, and gives 0. numbers[i] is then DAMPER_HALL_REPORT + 256 * position + status if drive i
+ * reports, DAMPER_HALL_SILENT if it does not, and DAMPER_HALL_NOT_WELL_FORMED if its record is not well formed, which stays
+ * as it is. So do the places of the numbers from `drives` on. Rank and motor are not said; where a damper is to stand after
+ * the tick, its record says.
+ *
+ * The call is turned down by 14 if drives is 0 or over 64, otherwise by 16 if places is below drives, and then both rows stay
+ * as they are.
+ */
+uint8_t damper_hall_tick(damper_drive *row, size_t drives, uint32_t *numbers, size_t places);
+
+/*
  * An answer taken apart. Each function says for which words it holds, and gives 0 for the others.
  */
 
@@ -370,6 +427,28 @@ static inline uint8_t damper_answer_motor(uint8_t word, uint32_t code)
     if (word == DAMPER_WORD_TICK)
         return (uint8_t)code;
     return word == DAMPER_WORD_REPORT ? (uint8_t)(code >> 8) : 0;
+}
+
+/*
+ * A number of damper_hall_tick taken apart.
+ */
+
+/* Whether the drive reports. */
+static inline bool damper_hall_is_report(uint32_t number)
+{
+    return number >= DAMPER_HALL_REPORT;
+}
+
+/* The position that it reports; 0 if it does not. */
+static inline uint8_t damper_hall_position(uint32_t number)
+{
+    return damper_hall_is_report(number) ? (uint8_t)(number >> 8) : 0;
+}
+
+/* The status that it reports, bits of enum damper_status; 0 if it does not. */
+static inline uint8_t damper_hall_status(uint32_t number)
+{
+    return damper_hall_is_report(number) ? (uint8_t)number : 0;
 }
 
 /*
