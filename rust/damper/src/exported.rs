@@ -50,6 +50,25 @@ extern "C" {
     ) -> Replayed;
 }
 
+// libhall_event.a
+extern "C" {
+    fn damper_hall_event(
+        row: *mut Drive,
+        drives: usize,
+        list: *const u32,
+        entries: usize,
+        bytes: *const u8,
+        length: usize,
+        answers: *mut u8,
+        places: usize,
+    ) -> u8;
+}
+
+// libhall_tick.a
+extern "C" {
+    fn damper_hall_tick(row: *mut Drive, drives: usize, numbers: *mut u32, places: usize) -> u8;
+}
+
 const _: () = {
     assert!(size_of::<Drive>() == 44 && align_of::<Drive>() == 2);
     assert!(size_of::<Commands>() == 8);
@@ -136,4 +155,29 @@ pub fn replay(drive: &Drive, bytes: &[u8], words: &mut [u8], codes: &mut [u32]) 
             codes.len(),
         )
     }
+}
+
+#[inline]
+pub fn hall_event(row: &mut [Drive], list: &[u32], bytes: &[u8], answers: &mut [u8]) -> u8 {
+    // SAFETY: each pointer goes with the length of its slice, and slices of which two are lent mutably do
+    // not overlap; any bytes are a `Drive`.
+    unsafe {
+        damper_hall_event(
+            row.as_mut_ptr(),
+            row.len(),
+            list.as_ptr(),
+            list.len(),
+            bytes.as_ptr(),
+            bytes.len(),
+            answers.as_mut_ptr(),
+            answers.len(),
+        )
+    }
+}
+
+#[inline]
+pub fn hall_tick(row: &mut [Drive], numbers: &mut [u32]) -> u8 {
+    // SAFETY: each pointer goes with the length of its slice, and two that are lent mutably do not overlap;
+    // any bytes are a `Drive`.
+    unsafe { damper_hall_tick(row.as_mut_ptr(), row.len(), numbers.as_mut_ptr(), numbers.len()) }
 }

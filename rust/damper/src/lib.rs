@@ -1,9 +1,10 @@
-//! The proved damper drive of document 01, for hosts in Rust. The drive itself is in the archives
-//! `libhost.a` and `libhost_replay.a`, written and proved in Rattle; this crate gives its numbers types and
-//! decides nothing.
+//! The proved damper drive of document 01, alone and in a hall, for hosts in Rust. The drive itself is in
+//! the archives `libhost.a` and `libhost_replay.a`, the calls on a hall of drives in `libhall_event.a` and
+//! `libhall_tick.a`, written and proved in Rattle; this crate gives their numbers types and decides nothing.
 //!
 //! Cargo links them from the folder that the environment variable DAMPER_ARCHIVES names, or from the
-//! repository's target/staticlib, where `rt staticlib host` and `rt staticlib host_replay` write them.
+//! repository's target/staticlib, where `rt staticlib host`, `rt staticlib host_replay`,
+//! `rt staticlib hall_event` and `rt staticlib hall_tick` write them.
 //!
 //! ```
 //! use damper::{Answer, Drive, Event, Parameter, Rank, Refusal};
@@ -22,6 +23,8 @@
 //! let stored: [u8; 44] = drive.to_bytes();
 //! assert_eq!(Drive::restore(stored), Ok(drive));
 //! ```
+//!
+//! A hall holds up to 64 drives in one row: [`hall_event`] and [`hall_tick`].
 
 #![no_std]
 #![warn(missing_docs)]
@@ -33,11 +36,13 @@ mod answer;
 mod drive;
 mod event;
 mod exported;
+mod hall;
 mod parameter;
 mod refusal;
 
 pub use answer::{Answer, Motor, Rank, Status};
 pub use drive::{Commands, Drive, Last, Run};
 pub use event::{read, write, Command, Event};
+pub use hall::{hall_event, hall_tick, HallAnswer, HallRefusal, HallTick, HALL_MOST};
 pub use parameter::Parameter;
 pub use refusal::Refusal;

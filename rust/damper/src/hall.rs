@@ -1,0 +1,295 @@
+//! A hall: 1 to 64 drives in one row, worked on where they stand. Document 02, W-201.
+
+use crate::{exported, Drive, Refusal, Status};
+use core::error::Error;
+use core::fmt;
+
+/// The most drives of a hall, and the most entries of a list.
+pub const HALL_MOST: usize = 64;
+
+/// Gives an event other than a tick to the listed drives, in the list's order: any bytes, however many.
+///
+/// Drives are numbered from 0, by their place in the row. One that is listed twice is given the event twice;
+/// one that is not listed keeps every field. The answer to entry i is the number `answers[i]`, which
+/// [`HallAnswer::from_number`] reads; further places keep their content. Reads hand no value back. A call
+/// that is refused itself touches nothing.
+///
+/// ```
+/// use damper::{hall_event, Drive, Event, HallAnswer, HallRefusal, Refusal};
+///
+/// let mut row = [Drive::fresh(); 3];
+/// row[1].commands.forcing = 9; // not well formed
+/// let mut answers = [0xEE; 3];
+/// let setpoint = Event::Setpoint(128).to_bytes().unwrap();
+/// assert_eq!(hall_event(&mut row, &[2, 1], &setpoint, &mut answers), Ok(()));
+/// assert_eq!(HallAnswer::from_number(answers[0]), Some(HallAnswer::Done));
+/// assert_eq!(HallAnswer::from_number(answers[1]), Some(HallAnswer::Refused(Refusal::Record)));
+/// assert_eq!(answers[2], 0xEE);
+/// assert_eq!((row[2].commands.setpoint, row[0]), (128, Drive::fresh()));
+///
+/// assert_eq!(hall_event(&mut row, &[2, 3], &setpoint, &mut answers), Err(HallRefusal::Number));
+/// ```
+#[inline]
+pub fn hall_event(
+    row: &mut [Drive],
+    list: &[u32],
+    bytes: &[u8],
+    answers: &mut [u8],
+) -> Result<(), HallRefusal> {
+    refused_or_done(exported::hall_event(row, list, bytes, answers))
+}
+
+/// Ticks every drive of the row, in its order.
+///
+/// What the tick of drive i gave is the number `numbers[i]`, which [`HallTick::from_number`] reads; further
+/// places keep their content. A call that is refused itself touches nothing.
+///
+/// ```
+/// use damper::{hall_tick, Drive, Event, HallRefusal, HallTick, Parameter};
+///
+/// let mut row = [Drive::fresh(); 3];
+/// row[0].give(Event::WriteParameter(Parameter::MinRepTime, 1));
+/// row[2].commands.forcing = 9; // not well formed
+/// let mut numbers = [0; 3];
+/// assert_eq!(hall_tick(&mut row, &mut numbers), Ok(()));
+/// let [first, second, third] = numbers.map(HallTick::from_number);
+/// assert!(matches!(first, Some(HallTick::Report { position: 0, status }) if status.bus_not_active()));
+/// assert_eq!(second, Some(HallTick::Silent));
+/// assert_eq!(third, Some(HallTick::NotWellFormed));
+///
+/// assert_eq!(hall_tick(&mut row, &mut numbers[..2]), Err(HallRefusal::Call));
+/// ```
+#[inline]
+pub fn hall_tick(row: &mut [Drive], numbers: &mut [u32]) -> Result<(), HallRefusal> {
+    refused_or_done(exported::hall_tick(row, numbers))
+}
+
+/// 0 is no refusal.
+fn refused_or_done(number: u8) -> Result<(), HallRefusal> {
+    match number {
+        0 => Ok(()),
+        _ => Err(HallRefusal::numbered(number).expect("the archive's refusals are document 02's")),
+    }
+}
+
+/// Why a hall call was refused itself, by document 02's number. The first that fits is the answer, and it
+/// comes before any refusal of a drive.
+#[derive(Clone, Copy, PartialEq, Eq, Hash, Debug)]
+#[repr(u8)]
+pub enum HallRefusal {
+    /// The row holds no drive or over 64.
+    Row = 14,
+    /// A listed number is not below the row's length.
+    Number,
+    /// The bytes are a tick that the reader accepts, the list has over 64 entries, or there are fewer places
+    /// for answers than entries of the list; for the hall tick, than drives.
+    Call,
+}
+
+impl HallRefusal {
+    /// 14 to 16.
+    pub const ALL: [HallRefusal; 3] = [HallRefusal::Row, HallRefusal::Number, HallRefusal::Call];
+
+    /// Document 02's number, 14 to 16.
+    pub const fn number(self) -> u8 {
+        self as u8
+    }
+
+    /// The refusal of that number.
+    pub fn numbered(number: u8) -> Option<HallRefusal> {
+        HallRefusal::ALL.get(usize::from(number).checked_sub(14)?).copied()
+    }
+}
+
+impl fmt::Display for HallRefusal {
+    fn fmt(&self, f: &mut fmt::Formatter) -> fmt::Result {
+        f.write_str(match self {
+            HallRefusal::Row => "the row holds no drive or over 64",
+            HallRefusal::Number => "a listed drive is not in the row",
+            HallRefusal::Call => "a tick by list, over 64 entries, or too few places for the answers",
+        })
+    }
+}
+
+impl Error for HallRefusal {}
+
+/// The answer to one entry of a list.
+#[derive(Clone, Copy, PartialEq, Eq, Hash, Debug)]
+pub enum HallAnswer {
+    /// The event was carried out.
+    Done,
+    /// The drive turned the event down and is unchanged.
+    Refused(Refusal),
+}
+
+impl HallAnswer {
+    /// The answer that the number stands for, 0 or a refusal's; None if it stands for none.
+    pub fn from_number(number: u8) -> Option<HallAnswer> {
+        match number {
+            0 => Some(HallAnswer::Done),
+            _ => Refusal::numbered(number).map(HallAnswer::Refused),
+        }
+    }
+
+    /// Its number.
+    pub const fn to_number(self) -> u8 {
+        match self {
+            HallAnswer::Done => 0,
+            HallAnswer::Refused(refusal) => refusal.number(),
+        }
+    }
+}
+
+/// What a hall tick gave for one drive.
+#[derive(Clone, Copy, PartialEq, Eq, Hash, Debug)]
+pub enum HallTick {
+    /// 0: ticked, without a report.
+    Silent,
+    /// 1: the record is not well formed and was not ticked.
+    NotWellFormed,
+    /// 65,536 + 256 × position + status: ticked, with a report.
+    Report {
+        /// After the move.
+        position: u8,
+        /// After the tick.
+        status: Status,
+    },
+}
+
+impl HallTick {
+    /// What the number stands for; None if it stands for nothing.
+    pub const fn from_number(number: u32) -> Option<HallTick> {
+        match number.to_be_bytes() {
+            [0, 0, 0, 0] => Some(HallTick::Silent),
+            [0, 0, 0, 1] => Some(HallTick::NotWellFormed),
+            [0, 1, position, status] => Some(HallTick::Report { position, status: Status(status) }),
+            _ => None,
+        }
+    }
+
+    /// Its number.
+    pub const fn to_number(self) -> u32 {
+        u32::from_be_bytes(match self {
+            HallTick::Silent => [0, 0, 0, 0],
+            HallTick::NotWellFormed => [0, 0, 0, 1],
+            HallTick::Report { position, status } => [0, 1, position, status.0],
+        })
+    }
+}
+
+#[cfg(test)]
+mod tests {
+    use super::*;
+    use crate::{Answer, Event, Parameter};
+
+    #[test]
+    fn refusal_numbers() {
+        for (refusal, number) in HallRefusal::ALL.into_iter().zip(14..) {
+            assert_eq!(refusal.number(), number);
+        }
+        for number in 0..=255 {
+            let refusal = HallRefusal::numbered(number);
+            assert_eq!(refusal.is_some(), (14..=16).contains(&number));
+            assert!(refusal.is_none_or(|refusal| refusal.number() == number));
+        }
+    }
+
+    #[test]
+    fn answer_numbers() {
+        for number in 0..=255 {
+            let answer = HallAnswer::from_number(number);
+            assert_eq!(answer.is_some(), number <= 13);
+            assert!(answer.is_none_or(|answer| answer.to_number() == number));
+        }
+    }
+
+    #[test]
+    fn tick_numbers() {
+        for number in 0..=200_000 {
+            let tick = HallTick::from_number(number);
+            assert_eq!(tick.is_some(), matches!(number, 0 | 1 | 65_536..=131_071));
+            assert!(tick.is_none_or(|tick| tick.to_number() == number));
+        }
+        assert_eq!(HallTick::from_number(1 << 24 | 1 << 16), None);
+        let report = HallTick::Report { position: 255, status: Status(63) };
+        assert_eq!(report.to_number(), 65_536 + 256 * 255 + 63);
+    }
+
+    /// Each refusal for its reason, the first that fits, and nothing touched.
+    #[test]
+    fn each_by_its_reason() {
+        let calibration = Event::Calibration.unchecked();
+        let tick = Event::Tick.unchecked();
+        let event = |drives: usize, list: &[u32], bytes: &[u8], places: usize| {
+            let (mut row, mut answers) = ([Drive::fresh(); 65], [0xEE; 65]);
+            let result = hall_event(&mut row[..drives], list, bytes, &mut answers[..places]);
+            if result.is_err() {
+                assert_eq!((row, answers), ([Drive::fresh(); 65], [0xEE; 65]));
+            }
+            result
+        };
+        assert_eq!(event(0, &[], &calibration, 0), Err(HallRefusal::Row));
+        assert_eq!(event(65, &[65], &tick, 0), Err(HallRefusal::Row));
+        assert_eq!(event(64, &[63], &calibration, 1), Ok(()));
+        assert_eq!(event(64, &[64], &tick, 0), Err(HallRefusal::Number));
+        assert_eq!(event(8, &[263], &calibration, 1), Err(HallRefusal::Number));
+        assert_eq!(event(8, &[], &tick, 0), Err(HallRefusal::Call));
+        assert_eq!(event(8, &[0; 64], &calibration, 64), Ok(()));
+        assert_eq!(event(8, &[0; 65], &calibration, 65), Err(HallRefusal::Call));
+        assert_eq!(event(8, &[0; 2], &calibration, 1), Err(HallRefusal::Call));
+
+        let ticked = |drives: usize, places: usize| {
+            let (mut row, mut numbers) = ([Drive::fresh(); 65], [0xEEEE_EEEE; 65]);
+            let result = hall_tick(&mut row[..drives], &mut numbers[..places]);
+            if result.is_err() {
+                assert_eq!((row, numbers), ([Drive::fresh(); 65], [0xEEEE_EEEE; 65]));
+            }
+            result
+        };
+        assert_eq!(ticked(0, 0), Err(HallRefusal::Row));
+        assert_eq!(ticked(65, 64), Err(HallRefusal::Row));
+        assert_eq!(ticked(64, 63), Err(HallRefusal::Call));
+        assert_eq!(ticked(64, 64), Ok(()));
+    }
+
+    /// The calls are the single events, drive by drive.
+    #[test]
+    fn as_single_events() {
+        let mut row = [Drive::fresh(); 4];
+        row[3].commands.forcing = 9;
+        let mut alone = row;
+        let events = [
+            Event::WriteParameter(Parameter::MinRepTime, 2),
+            Event::Setpoint(200),
+            Event::Calibration,
+            Event::WriteParameter(Parameter::Rate, 7),
+        ];
+        for event in events {
+            let list = [3, 0, 2, 0];
+            let mut answers = [0xEE; 5];
+            assert_eq!(hall_event(&mut row, &list, &event.unchecked(), &mut answers), Ok(()));
+            for (number, answer) in list.into_iter().zip(answers) {
+                let expected = match alone[number as usize].give(event) {
+                    Answer::Refused(refusal) => HallAnswer::Refused(refusal),
+                    _ => HallAnswer::Done,
+                };
+                assert_eq!(HallAnswer::from_number(answer), Some(expected));
+            }
+            assert_eq!((row, answers[4]), (alone, 0xEE));
+
+            let mut numbers = [0xEEEE_EEEE; 5];
+            assert_eq!(hall_tick(&mut row, &mut numbers), Ok(()));
+            for (drive, number) in alone.iter_mut().zip(numbers) {
+                let expected = match drive.give(Event::Tick) {
+                    Answer::Tick { position, report: Some(status), .. } => {
+                        HallTick::Report { position, status }
+                    }
+                    Answer::Tick { .. } => HallTick::Silent,
+                    _ => HallTick::NotWellFormed,
+                };
+                assert_eq!(HallTick::from_number(number), Some(expected));
+            }
+            assert_eq!((row, numbers[4]), (alone, 0xEEEE_EEEE));
+        }
+    }
+}
