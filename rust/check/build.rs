@@ -1,8 +1,10 @@
-//! Compiles the plain C drive, and writes the wrong drives and the false wordings of demand 3 that are the
-//! right ones with a piece of their text changed.
+//! Compiles the plain C drive, and writes the wrong drives, the wrong halls and the false wordings of
+//! demand 3 that are the right ones with a piece of their text changed.
 
 #[path = "edits/drives.rs"]
 mod drives;
+#[path = "edits/halls.rs"]
+mod halls;
 #[path = "edits/wordings.rs"]
 mod wordings;
 
@@ -23,9 +25,11 @@ fn main() {
     let out = env::var("OUT_DIR").unwrap();
     println!("cargo:rerun-if-changed={root}/edits");
     plain_c(&root, &out);
-    let (model, literal) = (format!("{root}/src/model.rs"), format!("{root}/src/literal.rs"));
-    edited(&model, drives::EDITS, "Wrong", "drive: &NAME::Model", &format!("{out}/drives.rs"));
-    edited(&literal, wordings::EDITS, "Wording", "broken: NAME::broken", &format!("{out}/wordings.rs"));
+    let source = |name| format!("{root}/src/{name}.rs");
+    let target = |name| format!("{out}/{name}.rs");
+    edited(&source("model"), drives::EDITS, "Wrong", "drive: &NAME::Model", &target("drives"));
+    edited(&source("hall"), halls::EDITS, "Wrong", "hall: &NAME::HallModel", &target("halls"));
+    edited(&source("literal"), wordings::EDITS, "Wording", "broken: NAME::broken", &target("wordings"));
 }
 
 fn plain_c(root: &str, out: &str) {

@@ -326,19 +326,28 @@ impl Checker {
 
     /// The next event record of the list, the drive's answer to it and its position after it.
     pub fn event(&mut self, bytes: &[u8], answer: &Answer, position: u8) -> Breach {
+        match *answer {
+            Answer::Refused(refusal) => self.heard(bytes, Some(refusal), None, position),
+            // "a spontaneous report is any answer of the tick's form with a status, whichever event it
+            // answers"
+            Answer::Tick { position: reported, report: Some(Status(status)), .. } => {
+                self.heard(bytes, None, Some((reported, status)), position)
+            }
+            _ => self.heard(bytes, None, None, position),
+        }
+    }
+
+    /// The same, of the answer what demand 3 looks at: the refusal, or the report's position and status.
+    pub fn heard(
+        &mut self,
+        bytes: &[u8],
+        refusal: Option<Refusal>,
+        report: Option<(u8, u8)>,
+        position: u8,
+    ) -> Breach {
         let mut breach = Breach::default();
         let judged = self.list.judge(bytes);
-        let refusal = match *answer {
-            Answer::Refused(refusal) => Some(refusal),
-            _ => None,
-        };
         breach.add(Clause::Refusal, refusal != judged.err());
-
-        // "a spontaneous report is any answer of the tick's form with a status, whichever event it answers"
-        let report = match *answer {
-            Answer::Tick { position, report: Some(Status(status)), .. } => Some((position, status)),
-            _ => None,
-        };
         match judged {
             Ok([1, ..]) => self.tick(report, &mut breach),
             other => {

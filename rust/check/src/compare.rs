@@ -88,7 +88,10 @@ pub fn lists<S: Subject + ?Sized>(
 ) -> Result<u64, Finding> {
     match first_failure(subject, seed, events, Ask::Both, Some(cover)) {
         Ok(done) => Ok(done),
-        Err((_, list, _)) => finding(format!("seed {seed}"), describe(subject, &shorten(subject, list))),
+        Err((_, list, _)) => {
+            let short = shorten(list, 20_000_000, |list| Some(failure_on(subject, Ask::Both, list)?.0));
+            finding(format!("seed {seed}"), describe(subject, &short))
+        }
     }
 }
 
@@ -125,9 +128,13 @@ fn failure_on<S: Subject + ?Sized>(subject: &S, ask: Ask, list: &[Bytes]) -> Opt
     list.iter().enumerate().find_map(|(i, bytes)| Some((i, pair.event(bytes.as_slice(), None).err()?)))
 }
 
-/// Leaves out stretches of events, long ones first, as long as the subject still fails.
-fn shorten<S: Subject + ?Sized>(subject: &S, mut list: Vec<Bytes>) -> Vec<Bytes> {
-    let mut effort = 20_000_000;
+/// Leaves out stretches of a list, long ones first, as long as it still fails; `failure_on` gives the index
+/// of the entry at which a list does. About `effort` entries are tried.
+pub(crate) fn shorten<T: Clone>(
+    mut list: Vec<T>,
+    mut effort: usize,
+    failure_on: impl Fn(&[T]) -> Option<usize>,
+) -> Vec<T> {
     let mut stretch = list.len() / 2;
     while stretch > 0 {
         let mut at = 0;
@@ -135,8 +142,8 @@ fn shorten<S: Subject + ?Sized>(subject: &S, mut list: Vec<Bytes>) -> Vec<Bytes>
             effort -= list.len();
             let mut shorter = list.clone();
             shorter.drain(at..list.len().min(at + stretch));
-            match failure_on(subject, Ask::Both, &shorter) {
-                Some((i, _)) => {
+            match failure_on(&shorter) {
+                Some(i) => {
                     shorter.truncate(i + 1);
                     list = shorter;
                 }
@@ -173,7 +180,7 @@ fn both_sides(count: usize, failure: &Failure) -> String {
     text
 }
 
-fn hex(bytes: &[u8]) -> String {
+pub(crate) fn hex(bytes: &[u8]) -> String {
     if bytes.is_empty() {
         return "-".to_string();
     }

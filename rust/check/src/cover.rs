@@ -92,12 +92,6 @@ impl Cover {
         let events = refusals.chain(ranks).chain(ends).chain(revived).chain(reasons);
         events.chain(origins).chain(flags).collect()
     }
-
-    /// The counts below `least`.
-    pub fn shortfalls(&self, least: u64) -> Vec<String> {
-        let counts = self.counts().into_iter();
-        counts.filter(|(_, n)| *n < least).map(|(name, n)| format!("{name}: {n}")).collect()
-    }
 }
 
 /// The first of step 4's reasons that held for a report.

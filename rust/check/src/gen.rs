@@ -4,7 +4,7 @@
 //! Timeout and RepPer, bursts of ticks that stop about a limit, positions on the grid of 51 where
 //! 100 × the distance can equal 255 × ActPosCOV.
 
-use crate::event::{percent_to_position, MARK};
+use crate::event::{percent_to_position, Event, MARK};
 use crate::flag::Flag;
 use crate::model::Model;
 use crate::subject::Subject;
@@ -155,6 +155,33 @@ impl Gen {
             3 => self.damaged(record),
             _ => self.likely(record),
         }
+    }
+
+    /// An event for a list of drives, of which `record` is one: no tick that the reader accepts.
+    pub fn listed(&mut self, record: &Drive) -> Bytes {
+        loop {
+            let bytes = match self.rng.below(8) {
+                0 => self.damaged(record),
+                1 => self.opening_write(record),
+                _ => self.likely(record),
+            };
+            if Event::from_bytes(bytes.as_slice()) != Ok(Event::Tick) {
+                return bytes;
+            }
+        }
+    }
+
+    /// A tick with one thing wrong: an unused byte, the length or the mark.
+    pub fn damaged_tick(&mut self) -> Bytes {
+        let mut bytes = Bytes::event(1, 0, 0, 0);
+        let other = self.rng.between(1, 255) as u8;
+        match self.rng.below(6) {
+            0..3 => bytes.data[3 + self.rng.below(3) as usize] = other,
+            3 => bytes.len = 5,
+            4 => bytes.len = 7,
+            _ => bytes.data[self.rng.below(2) as usize] ^= other,
+        }
+        bytes
     }
 
     fn opening_write(&mut self, record: &Drive) -> Bytes {

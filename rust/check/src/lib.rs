@@ -1,9 +1,9 @@
-//! A second implementation of the damper drive of document 01, written from the paper alone, and the runs
-//! that set another implementation (a `Subject`) against it.
+//! A second implementation of the damper drive of document 01 and of the hall of document 02's W-201, written
+//! from the papers alone, and the runs that set another implementation (a `Subject`, a `Hall`) against it.
 //!
-//! The second implementation is `table`, `event` and `model`; it shares with a host's crate `damper` the
-//! types of the drive record and of the answer, and no rule. `check` stands apart: it reads demand 3 off
-//! the list of event records, and `literal` does so word for word.
+//! The second implementation is `table`, `event` and `model`, and `hall` over them; it shares with a host's
+//! crate `damper` the types of the drive record and of the answer, and no rule. `check` stands apart: it
+//! reads demand 3 off the list of event records, and `literal` does so word for word.
 
 pub mod bench;
 pub mod cases;
@@ -14,6 +14,8 @@ pub mod cover;
 pub mod event;
 pub mod flag;
 pub mod gen;
+pub mod hall;
+pub mod halls;
 pub mod literal;
 pub mod marked;
 pub mod model;

@@ -16,13 +16,8 @@ impl Subject for Model {
 
     #[inline]
     fn step(&self, record: &Drive, bytes: &[u8]) -> (Answer, Drive) {
-        let Some(mut state) = State::from_record(record) else {
-            return (Answer::Refused(Refusal::Record), *record);
-        };
-        match Event::from_bytes(bytes).and_then(|event| state.act(event)) {
-            Ok(answer) => (answer, state.to_record()),
-            Err(refusal) => (Answer::Refused(refusal), *record),
-        }
+        let mut after = *record;
+        (Model::give(&mut after, Event::from_bytes(bytes)), after)
     }
 
     fn well_formed(&self, record: &Drive) -> bool {
@@ -35,6 +30,23 @@ impl Subject for Model {
 
     fn write(&self, buffer: &mut [u8], fields: [u8; 4]) -> Result<(), Refusal> {
         event::write(buffer, fields)
+    }
+}
+
+impl Model {
+    /// An event, or its refusal from the bytes alone, to the drive where it stands.
+    #[inline]
+    pub fn give(record: &mut Drive, event: Result<Event, Refusal>) -> Answer {
+        let Some(mut state) = State::from_record(record) else {
+            return Answer::Refused(Refusal::Record);
+        };
+        match event.and_then(|event| state.act(event)) {
+            Ok(answer) => {
+                *record = state.to_record();
+                answer
+            }
+            Err(refusal) => Answer::Refused(refusal),
+        }
     }
 }
 

@@ -1,7 +1,7 @@
-//! The proved drive, as a host has it.
+//! The proved drive and the proved hall, as a host has them.
 
-use crate::subject::Subject;
-use damper::{Answer, Drive, Refusal};
+use crate::subject::{Hall, Subject};
+use damper::{Answer, Drive, HallRefusal, Refusal};
 
 pub struct Proved;
 
@@ -27,4 +27,20 @@ impl Subject for Proved {
     fn write(&self, buffer: &mut [u8], fields: [u8; 4]) -> Result<(), Refusal> {
         damper::write(buffer, fields)
     }
+}
+
+impl Hall for Proved {
+    #[inline]
+    fn event(&self, row: &mut [Drive], list: &[u32], bytes: &[u8], answers: &mut [u8]) -> u8 {
+        number(damper::hall_event(row, list, bytes, answers))
+    }
+
+    #[inline]
+    fn tick(&self, row: &mut [Drive], numbers: &mut [u32]) -> u8 {
+        number(damper::hall_tick(row, numbers))
+    }
+}
+
+fn number(result: Result<(), HallRefusal>) -> u8 {
+    result.map_or_else(HallRefusal::number, |()| 0)
 }

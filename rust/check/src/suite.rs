@@ -3,21 +3,27 @@
 use crate::catch::catch;
 use crate::compare::{self, Finding};
 use crate::cover::Cover;
+use crate::halls::cover::HallCover;
+use crate::halls::{self, halls};
 use crate::replays::replays;
-use crate::subject::Subject;
+use crate::subject::{Hall, Subject};
 use crate::wrong;
 use std::time::Instant;
 
-/// A count of `Cover` below this is a failure.
+/// A count of `Cover` or `HallCover` below this is a failure.
 const LEAST_COVER: u64 = 1_000;
 /// Lists that are replayed.
 const REPLAYS: u32 = 20_000;
 /// Events and steps for each wrong drive.
 const CATCH_WITHIN: u64 = 300_000;
+/// Calls for each wrong hall.
+const CATCH_HALL_WITHIN: u64 = 60_000;
+/// Events on lists for each hall call.
+const EVENTS_A_CALL: u64 = 10;
 
 /// True if all pass. Each seed gets this many events on lists and single steps.
-pub fn run<S: Subject + ?Sized>(subject: &S, events: u64, steps: u64, seeds: &[u64]) -> bool {
-    let mut cover = Cover::default();
+pub fn run<S: Subject + Hall + ?Sized>(subject: &S, events: u64, steps: u64, seeds: &[u64]) -> bool {
+    let (mut cover, mut hall_cover) = (Cover::default(), HallCover::default());
     let mut passed = true;
     for &seed in seeds {
         passed &= part(&format!("lists, seed {seed}"), || compare::lists(subject, seed, events, &mut cover));
@@ -28,11 +34,18 @@ pub fn run<S: Subject + ?Sized>(subject: &S, events: u64, steps: u64, seeds: &[u
     for &seed in seeds {
         passed &= part(&format!("replay, seed {seed}"), || replays(seed, REPLAYS));
     }
+    for &seed in seeds {
+        passed &= part(&format!("hall calls, seed {seed}"), || {
+            halls(subject, seed, events / EVENTS_A_CALL, &mut hall_cover)
+        });
+    }
     passed &= part("reader and writer", || compare::bytes(subject, false));
     passed &= part("fixed lists", || compare::fixed(subject));
     passed &= part("false wordings of demand 3", || compare::false_wordings(subject));
     passed &= wrong_drives(seeds[0]);
-    passed &= covered(&cover);
+    passed &= wrong_halls(seeds[0]);
+    passed &= covered("met", cover.counts());
+    passed &= covered("met in halls", hall_cover.counts());
     println!("{}", if passed { "all passed" } else { "FAILED" });
     passed
 }
@@ -58,14 +71,25 @@ fn wrong_drives(seed: u64) -> bool {
     all
 }
 
-fn covered(cover: &Cover) -> bool {
-    println!("met:");
-    for (name, count) in cover.counts() {
+fn wrong_halls(seed: u64) -> bool {
+    let mut all = true;
+    for wrong in halls::wrong::ALL {
+        let caught = halls::wrong::catch(wrong.hall, seed, CATCH_HALL_WITHIN);
+        println!("wrong hall {}: {caught}", wrong.name);
+        all &= caught.anywhere();
+    }
+    all
+}
+
+fn covered(what: &str, counts: Vec<(String, u64)>) -> bool {
+    println!("{what}:");
+    for (name, count) in &counts {
         println!("  {name}: {count}");
     }
-    let shortfalls = cover.shortfalls(LEAST_COVER);
-    for shortfall in &shortfalls {
-        println!("met too seldom: {shortfall}");
+    let mut all = true;
+    for (name, count) in counts.iter().filter(|(_, count)| *count < LEAST_COVER) {
+        println!("met too seldom: {name}: {count}");
+        all = false;
     }
-    shortfalls.is_empty()
+    all
 }

@@ -1,0 +1,241 @@
+//! Halls against the second implementation, over lists of calls: after each call its number, the whole row
+//! and the whole answer row are compared, with a place behind each that was not lent. What a drive that was
+//! fresh at first got of the calls, its share, goes through the checker of demand 3.
+
+pub mod cover;
+pub mod gen;
+pub mod wrong;
+
+use crate::check::{Breach, Checker};
+use crate::compare::{hex, shorten, Ask, Finding};
+use crate::hall::HallModel;
+use crate::model::Model;
+use crate::subject::{Hall, Subject};
+use cover::HallCover;
+use damper::{Drive, HallAnswer, HallTick};
+use gen::{Call, HallGen};
+use std::fmt::Debug;
+
+const TICK: [u8; 6] = [0x5A, 0xC3, 1, 0, 0, 0];
+
+/// A hall beside the second implementation, both with the same row at first.
+struct Pair<'h, H: Hall + ?Sized> {
+    hall: &'h H,
+    ask: Ask,
+    drives: usize,
+    /// The row, and a drive behind it.
+    model: Vec<Drive>,
+    tested: Vec<Drive>,
+    shares: Vec<Option<Share>>,
+}
+
+/// What a drive that was fresh at first got of the calls.
+struct Share {
+    checker: Checker,
+    turns: u64,
+}
+
+impl Share {
+    fn of(drive: &Drive) -> Option<Share> {
+        (*drive == Model.fresh()).then(|| Share { checker: Checker::from_fresh(), turns: 0 })
+    }
+
+    /// An event call's turn. No number but 0 and a refusal's says anything to demand 3.
+    fn event(&mut self, bytes: &[u8], number: u8, position: u8) -> Breach {
+        self.turns += 1;
+        let refusal = match HallAnswer::from_number(number) {
+            Some(HallAnswer::Refused(refusal)) => Some(refusal),
+            _ => None,
+        };
+        self.checker.heard(bytes, refusal, None, position)
+    }
+
+    /// A hall tick's turn.
+    fn tick(&mut self, number: u32, position: u8) -> Breach {
+        self.turns += 1;
+        let (refusal, report) = match HallTick::from_number(number) {
+            Some(HallTick::NotWellFormed) => (Some(damper::Refusal::Record), None),
+            Some(HallTick::Report { position, status }) => (None, Some((position, status.0))),
+            _ => (None, None),
+        };
+        self.checker.heard(&TICK, refusal, report, position)
+    }
+}
+
+/// The first call at which a hall fails, and how.
+struct Failure {
+    text: String,
+    breach: Breach,
+}
+
+/// A row to lend, of content that no call writes, and a place behind it.
+fn odd<T>(places: usize, content: impl Fn(u32) -> T) -> Vec<T> {
+    (0..=places as u32).map(content).collect()
+}
+
+impl<'h, H: Hall + ?Sized> Pair<'h, H> {
+    fn new(hall: &'h H, ask: Ask, row: &[Drive]) -> Self {
+        let behind = Drive::from_bytes([0xEE; 44]);
+        let rows = [row, &[behind]].concat();
+        Pair {
+            hall,
+            ask,
+            drives: row.len(),
+            model: rows.clone(),
+            tested: rows,
+            shares: row.iter().map(Share::of).collect(),
+        }
+    }
+
+    /// The row as the second implementation has it.
+    fn row(&self) -> &[Drive] {
+        &self.model[..self.drives]
+    }
+
+    fn call(&mut self, call: &Call, cover: Option<&mut HallCover>) -> Result<(), Failure> {
+        match *call {
+            Call::Event { ref list, bytes, places } => self.event(list, bytes.as_slice(), places, cover),
+            Call::Tick { places } => self.tick(places, cover),
+        }
+    }
+
+    fn event(
+        &mut self,
+        list: &[u32],
+        bytes: &[u8],
+        places: usize,
+        cover: Option<&mut HallCover>,
+    ) -> Result<(), Failure> {
+        let lent = odd(places, |i| 0x80 | i as u8);
+        let (mut model, mut tested) = (lent.clone(), lent);
+        let before = cover.is_some().then(|| self.row().to_vec());
+        let expected = HallModel.event(&mut self.model[..self.drives], list, bytes, &mut model[..places]);
+        let number = self.hall.event(&mut self.tested[..self.drives], list, bytes, &mut tested[..places]);
+        if let (Some(cover), Some(before)) = (cover, before) {
+            let answers = &model[..list.len().min(places)];
+            cover.event(&before, (list, bytes, places), (expected, answers), self.row());
+        }
+        let mut breach = Breach::default();
+        // "a hall call refused itself belongs to no share". No event but a tick moves a drive, so the
+        // position after the call is that after each of its turns.
+        if self.ask != Ask::Equality && number == 0 {
+            for (&place, &answer) in list.iter().zip(&tested[..places]) {
+                if let Some(Some(share)) = self.shares.get_mut(place as usize) {
+                    breach.join(share.event(bytes, answer, self.tested[place as usize].position));
+                }
+            }
+        }
+        self.judge((expected, &model), (number, &tested), breach)
+    }
+
+    fn tick(&mut self, places: usize, cover: Option<&mut HallCover>) -> Result<(), Failure> {
+        let lent = odd(places, |i| 0xDEAD_0000 | i);
+        let (mut model, mut tested) = (lent.clone(), lent);
+        let expected = HallModel.tick(&mut self.model[..self.drives], &mut model[..places]);
+        let number = self.hall.tick(&mut self.tested[..self.drives], &mut tested[..places]);
+        if let Some(cover) = cover {
+            cover.tick(self.drives, places, expected, &model[..self.drives.min(places)]);
+        }
+        let mut breach = Breach::default();
+        if self.ask != Ask::Equality && number == 0 {
+            for ((share, drive), &number) in self.shares.iter_mut().zip(&self.tested).zip(&tested[..places]) {
+                if let Some(share) = share {
+                    breach.join(share.tick(number, drive.position));
+                }
+            }
+        }
+        self.judge((expected, &model), (number, &tested), breach)
+    }
+
+    /// Each side's number and answer row, and the rows of drives: by field, that is, every byte but the two
+    /// that no field has.
+    fn judge<T: PartialEq + Debug>(
+        &self,
+        (expected, model): (u8, &[T]),
+        (number, tested): (u8, &[T]),
+        breach: Breach,
+    ) -> Result<(), Failure> {
+        let same = number == expected && tested == model && self.tested == self.model;
+        if (same || self.ask == Ask::Demand3) && breach.none() {
+            return Ok(());
+        }
+        let mut text = format!("model {expected}, subject {number}");
+        if let Some(i) = (0..model.len()).find(|&i| model[i] != tested[i]) {
+            text += &format!("\n  answer {i}: model {:?}, subject {:?}", model[i], tested[i]);
+        }
+        if let Some(i) = (0..self.model.len()).find(|&i| self.model[i] != self.tested[i]) {
+            text += &format!("\n  drive {i}: model   {:?}", self.model[i]);
+            text += &format!("\n  drive {i}: subject {:?}", self.tested[i]);
+        }
+        if !breach.none() {
+            text += &format!("\n  demand 3 fails in: {breach}");
+        }
+        Err(Failure { text, breach })
+    }
+}
+
+/// The calls up to the first failure, and how many there were in all the halls.
+struct Failed {
+    done: u64,
+    row: Vec<Drive>,
+    calls: Vec<Call>,
+    breach: Breach,
+}
+
+fn first_failure<H: Hall + ?Sized>(
+    hall: &H,
+    seed: u64,
+    calls: u64,
+    ask: Ask,
+    mut cover: Option<&mut HallCover>,
+) -> Result<u64, Failed> {
+    let mut gen = HallGen::new(seed);
+    let mut done = 0;
+    while done < calls {
+        let (row, life) = gen.hall();
+        let mut pair = Pair::new(hall, ask, &row);
+        let mut calls = Vec::new();
+        for _ in 0..life {
+            let call = gen.call(pair.row());
+            done += 1;
+            let result = pair.call(&call, cover.as_deref_mut());
+            calls.push(call);
+            if let Err(Failure { breach, .. }) = result {
+                return Err(Failed { done, row, calls, breach });
+            }
+        }
+        if let Some(cover) = cover.as_deref_mut() {
+            cover.shares(pair.shares.iter().flatten().filter(|share| share.turns > 0).count() as u64);
+        }
+    }
+    Ok(done)
+}
+
+/// Halls that live through lists of calls. Gives the number of calls, or the finding with the list shortened.
+pub fn halls<H: Hall + ?Sized>(
+    hall: &H,
+    seed: u64,
+    calls: u64,
+    cover: &mut HallCover,
+) -> Result<u64, Finding> {
+    first_failure(hall, seed, calls, Ask::Both, Some(cover)).map_err(|Failed { row, calls, .. }| {
+        let failure_on = |calls: &[Call]| {
+            let mut pair = Pair::new(hall, Ask::Both, &row);
+            calls.iter().enumerate().find_map(|(i, call)| Some((i, pair.call(call, None).err()?)))
+        };
+        let short = shorten(calls, 1_000_000, |calls| Some(failure_on(calls)?.0));
+        let mut text = format!("{} calls on a hall of {}:", short.len(), row.len());
+        for call in &short {
+            text += &match call {
+                Call::Event { list, bytes, places } => {
+                    format!("\n  {} to {list:?}, {places} places", hex(bytes.as_slice()))
+                }
+                Call::Tick { places } => format!("\n  hall tick, {places} places"),
+            };
+        }
+        text += "\n  ";
+        text +=
+            &failure_on(&short).map_or("not met again when the list is repeated".to_string(), |f| f.1.text);
+        Finding { place: format!("seed {seed}"), text }
+    })
+}

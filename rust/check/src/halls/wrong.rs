@@ -1,0 +1,55 @@
+//! Wrong halls, each named by what it gets wrong; the comparison or demand 3 of a share has to catch every
+//! one. Each is `hall` with a change, in `edits/halls.rs`.
+//!
+//! A hall that gives a drive listed twice its second event as the drive was at entry is not among them: of
+//! the events other than a tick, none leaves or answers anything else the second time.
+
+use super::{first_failure, Failed};
+use crate::check::Breach;
+use crate::compare::Ask;
+use crate::subject::Hall;
+use std::fmt;
+
+pub struct Wrong {
+    pub name: &'static str,
+    pub hall: &'static dyn Hall,
+}
+
+/// All of them.
+pub const ALL: &[Wrong] = edited::EDITED;
+
+mod edited {
+    use super::Wrong;
+
+    include!(concat!(env!("OUT_DIR"), "/halls.rs"));
+}
+
+/// Where a wrong hall was caught; a number is the count of calls until then.
+pub struct Caught {
+    pub by_calls: Option<u64>,
+    pub by_demand_3: Option<(u64, Breach)>,
+}
+
+impl Caught {
+    pub fn anywhere(&self) -> bool {
+        self.by_calls.is_some() || self.by_demand_3.is_some()
+    }
+}
+
+impl fmt::Display for Caught {
+    fn fmt(&self, f: &mut fmt::Formatter) -> fmt::Result {
+        let calls = self.by_calls.map(|count| format!("calls (call {count})"));
+        let demand_3 = self.by_demand_3.map(|(count, breach)| format!("demand 3 (call {count}: {breach})"));
+        let by: Vec<_> = calls.into_iter().chain(demand_3).collect();
+        f.write_str(if by.is_empty() { "NOT CAUGHT".to_string() } else { by.join(", ") }.as_str())
+    }
+}
+
+/// A wrong hall, by each means on its own.
+pub fn catch(hall: &dyn Hall, seed: u64, calls: u64) -> Caught {
+    let failed = |ask| first_failure(hall, seed, calls, ask, None).err();
+    Caught {
+        by_calls: failed(Ask::Equality).map(|Failed { done, .. }| done),
+        by_demand_3: failed(Ask::Demand3).map(|Failed { done, breach, .. }| (done, breach)),
+    }
+}
