@@ -1,12 +1,15 @@
-//! Times of the proved drive, of the second implementation and of the plain C drive, side by side: they
-//! alternate, and the median of the rounds counts.
+//! Times of the proved drive and hall, of the second implementation and of the plain C drive, side by side:
+//! they alternate, and the median of the rounds counts.
 
+use crate::event::Event;
 use crate::gen::records;
+use crate::hall::HallModel;
 use crate::model::Model;
 use crate::plain::Plain;
+use crate::proved::Proved;
 use crate::replays::{model_replay, proved_replay};
-use crate::subject::Subject;
-use damper::{Answer, Drive};
+use crate::subject::{Hall, Subject};
+use damper::{Answer, Drive, HALL_MOST};
 use std::fs::File;
 use std::hint::black_box;
 use std::io;
@@ -16,6 +19,11 @@ use std::time::Instant;
 
 const ROUNDS: usize = 15;
 const RECORDS: usize = 1_000_000;
+/// Halls of 64 for the hall calls.
+const HALLS: usize = 64;
+/// Times that each is called before all begin anew, and how often they do: by ticks alone they come to rest.
+const CALLS: usize = 16;
+const ANEW: usize = 16;
 
 /// What a benchmark replays, by name: `mixed`, or ticks alone.
 fn sample(what: &str, n: usize) -> Vec<u8> {
@@ -25,8 +33,12 @@ fn sample(what: &str, n: usize) -> Vec<u8> {
     }
 }
 
-/// Replay by one of the three, for a count of instructions: `proved`, `model`, `plain`, or none of them.
+/// For a count of instructions, by `proved`, `model`, `plain` or none of them: a replay of n records; or, as
+/// `hall` or `list`, hall ticks or event calls for n drives, 64 in a call.
 pub fn spend(who: &str, what: &str, n: usize) {
+    if matches!(what, "hall" | "list") {
+        return spend_on_halls(who, what, n);
+    }
     let bytes = sample(what, n);
     let (mut words, mut codes) = (vec![0; n], vec![0; n]);
     let fresh = Model.fresh();
@@ -39,22 +51,41 @@ pub fn spend(who: &str, what: &str, n: usize) {
     black_box((words, codes));
 }
 
+fn spend_on_halls(who: &str, what: &str, n: usize) {
+    let (mut rows, list, events) = (lived(4), any_order(), listed_events());
+    let (mut numbers, mut answers) = ([0; HALL_MOST], [0; HALL_MOST]);
+    let hall: &dyn Hall = match who {
+        "proved" => &Proved,
+        "model" => &HallModel,
+        _ => return,
+    };
+    for i in 0..n / HALL_MOST {
+        let row = rows.chunks_mut(HALL_MOST).nth(i % 4).unwrap();
+        match what {
+            "hall" => hall.tick(row, &mut numbers),
+            _ => hall.event(row, &list, &events[i % events.len()], &mut answers),
+        };
+    }
+    black_box((rows, numbers, answers));
+}
+
 fn median(mut values: Vec<f64>) -> f64 {
     values.sort_by(f64::total_cmp);
     values[values.len() / 2]
 }
 
-/// Runs that alternate, and the nanoseconds a record that each took in each round.
+/// Runs that alternate, and the nanoseconds a record, or a drive, that each took in each round.
 struct Rounds<const N: usize>([Vec<f64>; N]);
 
 impl<const N: usize> Rounds<N> {
-    fn of(mut runs: [&mut dyn FnMut(); N]) -> Self {
+    /// Each run has this many records or drives.
+    fn of(many: usize, mut runs: [&mut dyn FnMut(); N]) -> Self {
         let mut times = [const { Vec::new() }; N];
         for _ in 0..ROUNDS {
             for (i, run) in runs.iter_mut().enumerate() {
                 let start = Instant::now();
                 run();
-                times[i].push(start.elapsed().as_secs_f64() * 1e9 / RECORDS as f64);
+                times[i].push(start.elapsed().as_secs_f64() * 1e9 / many as f64);
             }
         }
         Rounds(times)
@@ -70,11 +101,11 @@ impl<const N: usize> Rounds<N> {
         median(self.0[0].iter().zip(&self.0[i]).map(|(first, other)| first / other).collect())
     }
 
-    fn show(&self, what: &str) {
+    fn show(&self, what: &str, each: &str) {
         const NAMES: [&str; 3] = ["Rattle", "Rust", "plain C"];
         let times: Vec<_> = (0..N).map(|i| format!("{} {:.1} ns", NAMES[i], self.median(i))).collect();
         let ratios: Vec<_> = (1..N).map(|i| format!("{:.2} of {}", self.ratio(i), NAMES[i])).collect();
-        println!("{what}: {} a record; Rattle takes {}", times.join(", "), ratios.join(", "));
+        println!("{what}: {} a {each}; Rattle takes {}", times.join(", "), ratios.join(", "));
     }
 }
 
@@ -84,12 +115,15 @@ fn replay(what: &str) {
     let fresh = Model.fresh();
     let rows = || (vec![0; RECORDS], vec![0; RECORDS], (fresh, 0));
     let (mut proved, mut model, mut plain) = (rows(), rows(), rows());
-    Rounds::of([
-        &mut || proved.2 = proved_replay(fresh, black_box(&bytes), &mut proved.0, &mut proved.1),
-        &mut || model.2 = model_replay(fresh, black_box(&bytes), &mut model.0, &mut model.1),
-        &mut || plain.2 = Plain.replay(fresh, black_box(&bytes), &mut plain.0, &mut plain.1),
-    ])
-    .show(&format!("replay, {what}"));
+    Rounds::of(
+        RECORDS,
+        [
+            &mut || proved.2 = proved_replay(fresh, black_box(&bytes), &mut proved.0, &mut proved.1),
+            &mut || model.2 = model_replay(fresh, black_box(&bytes), &mut model.0, &mut model.1),
+            &mut || plain.2 = Plain.replay(fresh, black_box(&bytes), &mut plain.0, &mut plain.1),
+        ],
+    )
+    .show(&format!("replay, {what}"), "record");
     assert!(proved == model && model == plain, "the replays differ");
 }
 
@@ -110,13 +144,75 @@ fn singles(what: &str) {
     };
     let mut after = [Model.fresh(); 3];
     let [proved, model, plain] = &mut after;
-    Rounds::of([
-        &mut || *proved = all(&|record, event| record.step(event)),
-        &mut || *model = all(&by_model),
-        &mut || *plain = all(&|record, event| Plain.step(record, event)),
-    ])
-    .show(&format!("single steps through the boundary, {what}"));
+    Rounds::of(
+        RECORDS,
+        [
+            &mut || *proved = all(&|record, event| record.step(event)),
+            &mut || *model = all(&by_model),
+            &mut || *plain = all(&|record, event| Plain.step(record, event)),
+        ],
+    )
+    .show(&format!("single steps through the boundary, {what}"), "record");
     assert!(after[0] == after[1] && after[1] == after[2], "the drives after the single steps differ");
+}
+
+/// Rows of 64 drives, one after the other, each drive as a list of mixed events left it.
+fn lived(halls: usize) -> Vec<Drive> {
+    let drive = |i: usize| {
+        let events = records(50 + i % 300, i as u64);
+        events.chunks(6).fold(Model.fresh(), |record, event| Model.step(&record, event).1)
+    };
+    (0..halls * HALL_MOST).map(drive).collect()
+}
+
+/// Mixed events other than a tick.
+fn listed_events() -> Vec<[u8; 6]> {
+    let mixed = records(5_000, 4);
+    let events = mixed.chunks(6).map(|bytes| <[u8; 6]>::try_from(bytes).unwrap());
+    events.filter(|bytes| Event::from_bytes(bytes) != Ok(Event::Tick)).collect()
+}
+
+/// The drives of a hall in another order.
+fn any_order() -> [u32; HALL_MOST] {
+    std::array::from_fn(|i| (i as u32 * 37 + 11) % 64)
+}
+
+/// Calls on halls of `size` by the two, with the same drives and answers after them. `call` also gets the
+/// count of calls so far.
+fn on_halls<T: Clone + PartialEq + Default>(
+    what: &str,
+    size: usize,
+    call: impl Fn(&dyn Hall, usize, &mut [Drive], &mut [T]) -> u8,
+) {
+    let first = lived(HALLS);
+    let all = |hall: &dyn Hall, (rows, answers): &mut (Vec<Drive>, Vec<T>)| {
+        let mut count = 0;
+        for _ in 0..ANEW {
+            rows.copy_from_slice(&first);
+            for _ in 0..CALLS {
+                for (row, answers) in rows.chunks_mut(size).zip(answers.chunks_mut(size)) {
+                    assert!(call(hall, count, row, answers) == 0);
+                    count += 1;
+                }
+            }
+        }
+    };
+    let lent = || (first.clone(), vec![T::default(); first.len()]);
+    let (mut proved, mut model) = (lent(), lent());
+    let drives = first.len() * CALLS * ANEW;
+    Rounds::of(drives, [&mut || all(&Proved, &mut proved), &mut || all(&HallModel, &mut model)])
+        .show(what, "drive");
+    assert!(proved == model, "the halls differ");
+}
+
+fn halls() {
+    for size in [HALL_MOST, 1] {
+        on_halls(&format!("hall tick of {size}"), size, |hall, _, row, numbers| hall.tick(row, numbers));
+    }
+    let (list, events) = (any_order(), listed_events());
+    on_halls("event to a list of 64", HALL_MOST, |hall, count, row, answers| {
+        hall.event(row, &list, &events[count % events.len()], answers)
+    });
 }
 
 /// The programs: the proved one at `program`, and this one as `drive`.
@@ -128,11 +224,12 @@ fn programs(program: &Path) -> io::Result<()> {
         let status = command.stdin(File::open(&file).unwrap()).stdout(Stdio::null()).status().unwrap();
         assert!(status.success());
     };
-    let rounds = Rounds::of([&mut || once(&mut Command::new(program)), &mut || {
-        once(Command::new(&this).arg("drive"))
-    }]);
+    let rounds = Rounds::of(
+        RECORDS,
+        [&mut || once(&mut Command::new(program)), &mut || once(Command::new(&this).arg("drive"))],
+    );
     std::fs::remove_file(&file)?;
-    rounds.show("program, mixed");
+    rounds.show("program, mixed", "record");
     let millions = |i| 1e3 / rounds.median(i);
     println!("program: Rattle {:.1}, Rust {:.1} million records a second", millions(0), millions(1));
     Ok(())
@@ -144,5 +241,6 @@ pub fn run(program: &Path) -> io::Result<()> {
         replay(what);
         singles(what);
     }
+    halls();
     programs(program)
 }

@@ -1,8 +1,9 @@
-//! `damper-check` runs all comparisons of the proved drive with the second implementation.
+//! `damper-check` runs all comparisons of the proved drive and hall with the second implementation.
 //! `damper-check compare EVENTS STEPS SEED` the same, with these numbers and this seed alone.
 //! `damper-check bench PROGRAM` prints times, PROGRAM being the proved `drive`.
-//! `damper-check spend proved|model|plain|none mixed|ticks N` replays N records once, for a count of
-//! instructions.
+//! `damper-check spend proved|model|plain|none mixed|ticks N` replays N records once, and
+//! `damper-check spend proved|model|none hall|list N` ticks N drives in halls of 64, or gives them events by
+//! lists, for a count of instructions.
 //! `damper-check drive` is document 01's program `drive`.
 //! `damper-check gen N SEED` writes N mixed records of six bytes.
 

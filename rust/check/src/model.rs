@@ -34,8 +34,9 @@ impl Subject for Model {
 }
 
 impl Model {
-    /// An event, or its refusal from the bytes alone, to the drive where it stands.
-    #[inline]
+    /// An event, or its refusal from the bytes alone, to the drive where it stands. It is inlined with what
+    /// it calls, for the benchmark: a hall tick then has a fifth fewer instructions.
+    #[inline(always)]
     pub fn give(record: &mut Drive, event: Result<Event, Refusal>) -> Answer {
         let Some(mut state) = State::from_record(record) else {
             return Answer::Refused(Refusal::Record);
@@ -162,7 +163,7 @@ impl State {
     };
 
     /// "A record is well formed when ..."
-    #[inline]
+    #[inline(always)]
     fn from_record(r: &Drive) -> Option<State> {
         let params = Params::in_range(r.params)?;
         if params.get(Param::Low) > params.get(Param::High) {
@@ -191,7 +192,7 @@ impl State {
         })
     }
 
-    #[inline]
+    #[inline(always)]
     fn to_record(self) -> Drive {
         let bus = self.bus.unwrap_or(Setpoint { position: 0, age: 0 });
         let last = self.last.unwrap_or(Report { position: 0, status: Status(0) });
@@ -226,7 +227,7 @@ impl State {
     }
 
     /// "Eleven kinds of event" and refusals 9 to 13. A refusal leaves before the first change.
-    #[inline]
+    #[inline(always)]
     fn act(&mut self, event: Event) -> Result<Answer, Refusal> {
         match event {
             Event::Tick => return Ok(self.tick()),
@@ -305,6 +306,7 @@ impl State {
     }
 
     /// "One tick, in order"
+    #[inline(always)]
     fn tick(&mut self) -> Answer {
         // 1. Since rises by one, and so does age if there is a setpoint.
         self.since = one_more(self.since);
