@@ -12,7 +12,7 @@ use crate::hall::HallModel;
 use crate::model::Model;
 use crate::subject::{Hall, Subject};
 use cover::HallCover;
-use damper::{Drive, HallAnswer, HallTick};
+use damper::{Drive, HallAnswer, HallTick, Refusal};
 use gen::{Call, HallGen};
 use std::fmt::Debug;
 
@@ -29,7 +29,8 @@ struct Pair<'h, H: Hall + ?Sized> {
     shares: Vec<Option<Share>>,
 }
 
-/// What a drive that was fresh at first got of the calls.
+/// What a drive that was fresh at first got of the calls. A number that stands for nothing is left to the
+/// comparison.
 struct Share {
     checker: Checker,
     turns: u64,
@@ -40,7 +41,7 @@ impl Share {
         (*drive == Model.fresh()).then(|| Share { checker: Checker::from_fresh(), turns: 0 })
     }
 
-    /// An event call's turn. No number but 0 and a refusal's says anything to demand 3.
+    /// An event call's turn.
     fn event(&mut self, bytes: &[u8], number: u8, position: u8) -> Breach {
         self.turns += 1;
         let refusal = match HallAnswer::from_number(number) {
@@ -54,7 +55,7 @@ impl Share {
     fn tick(&mut self, number: u32, position: u8) -> Breach {
         self.turns += 1;
         let (refusal, report) = match HallTick::from_number(number) {
-            Some(HallTick::NotWellFormed) => (Some(damper::Refusal::Record), None),
+            Some(HallTick::NotWellFormed) => (Some(Refusal::Record), None),
             Some(HallTick::Report { position, status }) => (None, Some((position, status.0))),
             _ => (None, None),
         };
@@ -65,6 +66,8 @@ impl Share {
 /// The first call at which a hall fails, and how.
 struct Failure {
     text: String,
+    /// The first that differs.
+    drive: Option<usize>,
     breach: Breach,
 }
 
@@ -163,19 +166,21 @@ impl<'h, H: Hall + ?Sized> Pair<'h, H> {
         if let Some(i) = (0..model.len()).find(|&i| model[i] != tested[i]) {
             text += &format!("\n  answer {i}: model {:?}, subject {:?}", model[i], tested[i]);
         }
-        if let Some(i) = (0..self.model.len()).find(|&i| self.model[i] != self.tested[i]) {
+        let drive = (0..self.model.len()).find(|&i| self.model[i] != self.tested[i]);
+        if let Some(i) = drive {
             text += &format!("\n  drive {i}: model   {:?}", self.model[i]);
             text += &format!("\n  drive {i}: subject {:?}", self.tested[i]);
         }
         if !breach.none() {
             text += &format!("\n  demand 3 fails in: {breach}");
         }
-        Err(Failure { text, breach })
+        Err(Failure { text, drive, breach })
     }
 }
 
-/// The calls up to the first failure, and how many there were in all the halls.
+/// A hall that failed: its row at first, and the calls up to the failure.
 struct Failed {
+    /// Calls on all halls so far.
     done: u64,
     row: Vec<Drive>,
     calls: Vec<Call>,
@@ -233,9 +238,15 @@ pub fn halls<H: Hall + ?Sized>(
                 Call::Tick { places } => format!("\n  hall tick, {places} places"),
             };
         }
-        text += "\n  ";
-        text +=
-            &failure_on(&short).map_or("not met again when the list is repeated".to_string(), |f| f.1.text);
+        match failure_on(&short) {
+            Some((_, failure)) => {
+                text += &format!("\n  {}", failure.text);
+                if let Some((i, first)) = failure.drive.and_then(|i| Some((i, row.get(i)?))) {
+                    text += &format!("\n  drive {i}: first   {first:?}");
+                }
+            }
+            None => text += "\n  not met again when the list is repeated",
+        }
         Finding { place: format!("seed {seed}"), text }
     })
 }

@@ -17,7 +17,7 @@ const REPLAYS: u32 = 20_000;
 /// Events and steps for each wrong drive.
 const CATCH_WITHIN: u64 = 300_000;
 /// Calls for each wrong hall.
-const CATCH_HALL_WITHIN: u64 = 60_000;
+const CATCH_HALL_WITHIN: u64 = 100_000;
 /// Events on lists for each hall call.
 const EVENTS_A_CALL: u64 = 10;
 

@@ -2,6 +2,7 @@
 //! and the comparison of the two in short.
 
 use damper::{Drive, Run};
+use damper_check::check::{Checker, Clause};
 use damper_check::event::Event;
 use damper_check::gen::Gen;
 use damper_check::hall::HallModel;
@@ -216,6 +217,24 @@ fn a_second_giving_adds_nothing() {
         let once = Model.step(&record, bytes.as_slice());
         assert_eq!(Model.step(&once.1, bytes.as_slice()), once, "{bytes:?} on {record:?}");
         assert_ne!(Event::from_bytes(bytes.as_slice()), Ok(Event::Tick));
+    }
+}
+
+/// Counted into a share, the event of a refused call would break demand 3 of the right hall.
+#[test]
+fn refused_calls_belong_to_no_share() {
+    for hall in BOTH {
+        let (mut share, mut with_refused) = (Checker::from_fresh(), Checker::from_fresh());
+        let mut row = [Model.fresh()];
+        assert_eq!(hall.event(&mut row, &[0], &SETPOINT, &mut [0]), 0);
+        assert!(share.heard(&SETPOINT, None, None, row[0].position).none());
+        assert!(with_refused.heard(&SETPOINT, None, None, row[0].position).none());
+
+        assert_eq!(hall.tick(&mut row, &mut []), 16);
+        assert!(with_refused.heard(&TICK, None, None, row[0].position).has(Clause::Move));
+
+        assert_eq!(hall.tick(&mut row, &mut [0]), 0);
+        assert!(share.heard(&TICK, None, None, row[0].position).none());
     }
 }
 
