@@ -6,3 +6,4 @@ pub mod Step
 pub mod Laws
 pub mod Carry
 pub mod CarryLaws
+pub mod Closed

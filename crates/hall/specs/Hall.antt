@@ -1,5 +1,5 @@
 -- Document 02, W-201: 1 to 64 drive records in one row, the calls on them, and each drive's share of these.
-use mathlib.Core.Bool.{Bool, true, false, _||_}
+use mathlib.Core.Bool.{Bool, false, _||_}
 use mathlib.Core.List.{List, [], _∷_, _++_, map}
 use Prim.Native.Nat.{ℕ, zero, suc, _+_, _*_}
 use lib.Dec.{ltb, leb, eqb}
@@ -75,18 +75,22 @@ turnsOf n c = pick (eqb (callRefusal n c) 0) (turnsAsked n c) []
 abbrev pub at : List Drive → ℕ → Drive
 at row i = getD row i freshDrive
 
--- what the turns give, one after the other: each place gets the drive that the step leaves from the drive standing there then, so
--- that of a drive named twice "the event is given twice"
+-- what a turn gives, and the row after it: the place gets the drive that the step leaves from the drive standing there then
+abbrev pub taken : Step → List Drive → Turn → Outcome
+taken step row t = step (at row (t .place)) (t .bytes)
+
+abbrev pub rowWith : Step → List Drive → Turn → List Drive
+rowWith step row t = set row (t .place) (taken step row t .drive)
+
+-- what turns give, one after the other: of a drive named twice "the event is given twice", the second time as the first left it
 unfoldable pub turned : Step → List Drive → List Turn → List Outcome
 turned step row [] = []
-turned step row (t ∷ ts) =
-    let o = step (at row (t .place)) (t .bytes) in
-    o ∷ turned step (set row (t .place) (o .drive)) ts
+turned step row (t ∷ ts) = taken step row t ∷ turned step (rowWith step row t) ts
 
 -- the row after them; "A drive not named keeps every field."
 unfoldable pub rowAfter : Step → List Drive → List Turn → List Drive
 rowAfter step row [] = row
-rowAfter step row (t ∷ ts) = rowAfter step (set row (t .place) (step (at row (t .place)) (t .bytes) .drive)) ts
+rowAfter step row (t ∷ ts) = rowAfter step (rowWith step row t) ts
 
 -- the number of a tick's answer: "0 silent, 65,536 + 256 × position + status for a report, 1 for a drive not well formed" (which is
 -- all that can refuse a tick), position and status being the first and the fourth value

@@ -1,7 +1,7 @@
 -- Laws of a call's refusal and of its turns.
 use mathlib.Core.Path.{_≡_, refl, sym, ap, _∙_}
 use mathlib.Core.Bool.{Bool, true, false, _||_}
-use mathlib.Core.List.{List, [], _∷_, _++_, map}
+use mathlib.Core.List.{List, [], _∷_, _++_}
 use Prim.Native.Nat.{ℕ, zero, suc, _+_, _<_, _≤_}
 use native.Mathlib.Omega.{arith}
 use native.Mathlib.Nat.{not-suc-le-zero, le-of-suc-le-suc, zero-add}
@@ -18,7 +18,7 @@ use Rattle.damper.specs.declared.Drive.{Drive}
 use Rattle.damper.specs.declared.Outcome.{Outcome}
 use Rattle.damper.specs.Carry.{Step, answersIn}
 use Rattle.damper.specs.CarryLaws.{answers-more}
-use Rattle.hall.specs.Hall.{Call, give, tick, badRow, unknown, isTick, misgiven, callRefusal, Turn, turn, placesFrom, tickBytes, turnsAsked, turnsOf, at, turned, rowAfter, answerNumber, answersAfter}
+use Rattle.hall.specs.Hall.{Call, give, tick, badRow, unknown, isTick, misgiven, callRefusal, Turn, turn, placesFrom, tickBytes, turnsOf, at, rowWith, turned, rowAfter, answerNumber, answersAfter}
 
 -- the numbers of a list from `k` on: the one at `k`, and those behind it
 pub unknown-here : (n k : ℕ) (list : List ℕ) → k < length list → n ≤ getD list k 0 → unknown n (drop k list) ≡ true
@@ -135,26 +135,24 @@ tick-turns n room stop e =
 pub row-append : (step : Step) (row : List Drive) (ts us : List Turn) → rowAfter step row (ts ++ us) ≡ rowAfter step (rowAfter step row ts) us
 unfolding rowAfter
 row-append step row [] us = refl
-row-append step row (t ∷ ts) us = row-append step (set row (t .place) (step (at row (t .place)) (t .bytes) .drive)) ts us
+row-append step row (t ∷ ts) us = row-append step (rowWith step row t) ts us
 
 pub turned-append : (step : Step) (row : List Drive) (ts us : List Turn)
     → turned step row (ts ++ us) ≡ turned step row ts ++ turned step (rowAfter step row ts) us
 unfolding turned rowAfter
 turned-append step row [] us = refl
-turned-append step row (t ∷ ts) us = rw (turned-append step (set row (t .place) (step (at row (t .place)) (t .bytes) .drive)) ts us)
+turned-append step row (t ∷ ts) us = rw (turned-append step (rowWith step row t) ts us)
 
 -- the row keeps its length, and each turn gives one outcome
 pub row-length : (step : Step) (row : List Drive) (ts : List Turn) → length (rowAfter step row ts) ≡ length row
 unfolding rowAfter
 row-length step row [] = refl
-row-length step row (t ∷ ts) =
-    let d = step (at row (t .place)) (t .bytes) .drive in
-    row-length step (set row (t .place) d) ts ∙ length-set row (t .place) d
+row-length step row (t ∷ ts) = row-length step (rowWith step row t) ts ∙ length-set row (t .place) _
 
 pub turned-length : (step : Step) (row : List Drive) (ts : List Turn) → length (turned step row ts) ≡ length ts
 unfolding turned
 turned-length step row [] = refl
-turned-length step row (t ∷ ts) = ap suc (turned-length step (set row (t .place) (step (at row (t .place)) (t .bytes) .drive)) ts)
+turned-length step row (t ∷ ts) = ap suc (turned-length step (rowWith step row t) ts)
 
 pub answers-length : (number : Answer → ℕ) (os : List Outcome) (row : List ℕ) → length os ≤ length row → length (answersIn number os row) ≡ length row
 unfolding answersIn

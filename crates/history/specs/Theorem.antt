@@ -75,14 +75,15 @@ fresh-good =
       last = refl;
     }
 
--- The trace has as many records as the list, whatever the step.
-pub trace-whole : (step : Step) (l : List (List ℕ)) → length (C.traceOf step l) ≡ length l
+-- A trace grows by as many records as the list has, whatever the step and the drive.
+pub trace-length : (step : Step) (l : List (List ℕ)) (d : Drive) (t : C.Trace) → length (C.traceOn t l (outcomes step d l)) ≡ length t + length l
 unfolding outcomes C.traceOn
-trace-whole step l = go l freshDrive [] ∙ zero-add (length l)
-  where
-    go : (l : List (List ℕ)) (d : Drive) (t : C.Trace) → length (C.traceOn t l (outcomes step d l)) ≡ length t + length l
-    go [] d t = omega arith
-    go (s ∷ ss) d t = let o = step d s in go ss (o .drive) (momentOf s o ∷ t) ∙ omega arith
+trace-length step [] d t = omega arith
+trace-length step (s ∷ ss) d t = let o = step d s in trace-length step ss (o .drive) (momentOf s o ∷ t) ∙ omega arith
+
+-- The trace of a drive that was fresh at first has as many records as the list.
+pub trace-whole : (step : Step) (l : List (List ℕ)) → length (C.traceOf step l) ≡ length l
+trace-whole step l = trace-length step l freshDrive [] ∙ zero-add (length l)
 
 -- For every list of lists of numbers, however long each may be, the drive's trace meets the claim.
 pub demand-3 : (l : List (List ℕ)) → C.Claim (C.traceOf stepOf l)

@@ -4,24 +4,22 @@ use mathlib.Core.Path.{_≡_, refl}
 use mathlib.Core.Bool.{true, false}
 use mathlib.Core.List.{List, [], _∷_, _++_, map}
 use Prim.Native.Nat.{ℕ, _/_, _%_}
-use lib.Count.{leadingZeros}
 use lib.ListN.{drop, replicate, set}
-use Rattle.table.specs.Table.{freshValues, allIn, placeFrom}
-use Rattle.event.specs.Event.{event, formOf, dataRefusal, recordRefusal, writeRefusal, writtenTo}
-use Rattle.motion.specs.Motion.{toPosition, toPercent, runTicks, toward, motor}
-use Rattle.rules.specs.Commands.{commands, noCommands, interlocked, commandsFit}
-use Rattle.rules.specs.Rank.{rulingRank, activeByte, backupTarget, targets}
+use Rattle.table.specs.Table.{freshValues}
+use Rattle.event.specs.Event.{event, writeRefusal, writtenTo}
+use Rattle.motion.specs.Motion.{toPercent}
+use Rattle.rules.specs.Commands.{commands, noCommands, interlocked}
 use Rattle.rules.specs.Report.{status}
-use Rattle.rules.specs.Refusal.{stateRefusal, refusal}
 use Rattle.answer.specs.declared.Answer.{Answer}
 use Rattle.answer.specs.declared.Answer.the-variants.{No, Done, Par, At, Tick, Report}
 use Rattle.damper.specs.declared.Last.{Last}
 use Rattle.damper.specs.declared.Drive.{Drive}
 use Rattle.damper.specs.Record.{run, noRun, last, drive, freshDrive, withCounts, withParam, withCommands, withRun, withSetpoint, withTool, withHand}
-use Rattle.damper.specs.WellFormed.{runFits, lastFits, wellFormed}
-use Rattle.damper.specs.Tick.{aged, targetAt, moved, ranDown, advance, dueWith}
-use Rattle.damper.specs.Step.{tickWith, ticked, commanded, calibrated, restarted, obeyed, applied, refusalOf, stepOf}
+use Rattle.damper.specs.WellFormed.{wellFormed}
+use Rattle.damper.specs.Tick.{aged}
+use Rattle.damper.specs.Step.{stepOf}
 use Rattle.damper.specs.Carry.{outcomes, driveAfter}
+use Rattle.damper.specs.Closed.{computation}
 use Rattle.marked.specs.Rows.{Seen, numbers, tests, answers, bytes, tick, fromFresh, rankIn, standing}
 
 -- the other events by name
@@ -102,7 +100,7 @@ row g w e = record { got = g; want = w; same = e }
 
 -- Each row holds, and is proved where it stands, so that an error names its row.
 pub table : List Row
-unfolding allIn placeFrom formOf dataRefusal recordRefusal writeRefusal writtenTo toPosition toPercent runTicks toward motor rulingRank activeByte backupTarget targets status stateRefusal refusal commandsFit runFits lastFits wellFormed aged targetAt moved ranDown advance dueWith tickWith ticked commanded calibrated restarted obeyed applied refusalOf stepOf outcomes driveAfter leadingZeros
+unfolding computation writeRefusal writtenTo
 table =
     -- Document 01, 'Who commands':
     -- each source that joins outranks those before it: backup, bus, tool, hand (7: no tick)

@@ -3,24 +3,19 @@ use mathlib.Core.Path.{_≡_, refl}
 use mathlib.Core.Bool.{Bool, true, false}
 use mathlib.Core.List.{List, [], _∷_, _++_, map}
 use Prim.Native.Nat.{ℕ}
-use lib.Count.{leadingZeros}
 use lib.ListN.{drop, replicate}
-use Rattle.table.specs.Table.{allIn, placeFrom}
-use Rattle.event.specs.Event.{event, bytesOf, formOf, dataRefusal, recordRefusal}
-use Rattle.motion.specs.Motion.{toPosition, runTicks, toward, motor}
-use Rattle.rules.specs.Commands.{commandsFit}
-use Rattle.rules.specs.Rank.{rulingRank, activeByte, backupTarget, targets}
-use Rattle.rules.specs.Report.{status, changed}
-use Rattle.rules.specs.Refusal.{stateRefusal, refusal}
+use Rattle.event.specs.Event.{event, bytesOf}
+use Rattle.motion.specs.Motion.{toPosition, runTicks}
+use Rattle.rules.specs.Rank.{rulingRank}
+use Rattle.rules.specs.Report.{changed}
 use Rattle.damper.specs.declared.Drive.{Drive}
 use Rattle.damper.specs.declared.Outcome.{Outcome}
 use Rattle.answer.specs.declared.Answer.{Answer}
 use Rattle.answer.specs.declared.Answer.the-variants.{No, Done, Par, At, Tick, Report}
 use Rattle.damper.specs.Record.{freshDrive}
-use Rattle.damper.specs.WellFormed.{runFits, lastFits, wellFormed}
-use Rattle.damper.specs.Tick.{aged, targetAt, moved, ranDown, advance, dueWith}
-use Rattle.damper.specs.Step.{tickWith, ticked, commanded, calibrated, restarted, obeyed, applied, refusalOf, stepOf}
+use Rattle.damper.specs.Step.{stepOf}
 use Rattle.damper.specs.Carry.{outcomes, driveAfter}
+use Rattle.damper.specs.Closed.{computation}
 
 -- what a row speaks of
 pub data Seen : Type 0 where
@@ -89,5 +84,5 @@ table =
 
 -- Each row holds.
 pub marked : map (λ (r : Row). r .got) table ≡ map (λ (r : Row). r .want) table
-unfolding allIn placeFrom formOf dataRefusal recordRefusal toPosition runTicks toward motor rulingRank activeByte backupTarget targets status stateRefusal refusal commandsFit runFits lastFits wellFormed aged targetAt moved ranDown advance dueWith tickWith ticked commanded calibrated restarted obeyed applied refusalOf stepOf outcomes driveAfter leadingZeros
+unfolding computation
 marked = refl

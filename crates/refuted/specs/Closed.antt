@@ -2,26 +2,16 @@
 use mathlib.Core.Path.{_≡_}
 use mathlib.Core.Bool.{Bool, true, _&&_}
 use mathlib.Core.List.{List, [], _∷_}
-use lib.Count.{leadingZeros}
 use Rattle.numbers.specs.Laws.{and-left, and-right}
-use Rattle.table.specs.Table.{allIn, placeFrom}
-use Rattle.event.specs.Event.{formOf, dataRefusal, recordRefusal}
-use Rattle.motion.specs.Motion.{toPosition, toPercent, runTicks, toward, motor}
-use Rattle.rules.specs.Commands.{commandsFit}
-use Rattle.rules.specs.Rank.{rulingRank, activeByte, backupTarget, targets}
-use Rattle.rules.specs.Report.{status, reportDue}
-use Rattle.rules.specs.Refusal.{stateRefusal, refusal}
-use Rattle.damper.specs.WellFormed.{runFits, lastFits, wellFormed}
-use Rattle.damper.specs.Tick.{aged, targetAt, moved, ranDown, advance, dueWith}
-use Rattle.damper.specs.Step.{tickWith, ticked, commanded, calibrated, restarted, obeyed, applied, refusalOf, stepOf}
-use Rattle.damper.specs.Carry.{outcomes, driveAfter}
+use Rattle.rules.specs.Report.{reportDue}
+use Rattle.damper.specs.Closed as Drive
 use Rattle.history.specs.Readings.{latest, current, faultIn, forcingIn, handIn, handValue, toolIn, toolValue, setpointIn, setpointValue, parameterIn, parameters, ticks, setpointAge, busIn, ended, runIn, rankAt, targetFrom, positionIn, statusIn, judgement}
 use Rattle.history.specs.Log.{logFrom}
 use Rattle.history.specs.Claim.{accepted, ticksIn, lastReport, since, traceOn, reportsFrom}
 
 -- `unfolding computation` opens the drive, the readings and the claim's functions, so that a list of records computes
 unfoldable pub computation : Unit {0}
-unfolding leadingZeros allIn placeFrom formOf dataRefusal recordRefusal toPosition toPercent runTicks toward motor commandsFit rulingRank activeByte backupTarget targets status reportDue stateRefusal refusal runFits lastFits wellFormed aged targetAt moved ranDown advance dueWith tickWith ticked commanded calibrated restarted obeyed applied refusalOf stepOf outcomes driveAfter latest current faultIn forcingIn handIn handValue toolIn toolValue setpointIn setpointValue parameterIn parameters ticks setpointAge busIn ended runIn rankAt targetFrom positionIn statusIn judgement logFrom accepted ticksIn lastReport since traceOn reportsFrom
+unfolding Drive.computation reportDue latest current faultIn forcingIn handIn handValue toolIn toolValue setpointIn setpointValue parameterIn parameters ticks setpointAge busIn ended runIn rankAt targetFrom positionIn statusIn judgement logFrom accepted ticksIn lastReport since traceOn reportsFrom
 computation = tt
 
 -- `P` holds of each row of a table

@@ -4,14 +4,14 @@ use mathlib.Core.Path.{_≡_, refl, sym, ap, _∙_}
 use mathlib.Core.List.{List, [], _∷_}
 use Prim.Native.Nat.{ℕ, _<_}
 use lib.Dec.{eqb}
-use lib.ListN.{length, set}
+use lib.ListN.{length}
 use lib.Seq.{getD-set-same, getD-set-other, lt-length-set}
 use borrow.Author.Tests.{eqb-true, eqb-false, ne-eqb}
 use Rattle.numbers.specs.Laws.{cases}
 use Rattle.damper.specs.declared.Drive.{Drive}
 use Rattle.damper.specs.Record.{freshDrive}
 use Rattle.damper.specs.Carry.{Step, outcomes, driveAfter}
-use Rattle.hall.specs.Hall.{Call, callRefusal, Turn, turnsOf, at, turned, rowAfter, turnsIn, hallAfter, hallTurned, sharedOut, ownOf, share, own}
+use Rattle.hall.specs.Hall.{Call, callRefusal, Turn, turnsOf, at, rowWith, turned, rowAfter, turnsIn, hallAfter, hallTurned, sharedOut, ownOf, share, own}
 use Rattle.hall.specs.Laws.{row-append, turned-append, row-length}
 
 -- a call that is refused itself has no turns
@@ -46,14 +46,11 @@ module _ (step : Step) where
       let ts = turnsOf (length row) c in
       rw (turned-append step row ts (turnsIn (length row) cs), hall-turned (rowAfter step row ts) cs, row-length step row ts)
 
-  -- the row after one turn; what it has at the turn's place, and at another
-  abbrev rowTurned : List Drive → Turn → List Drive
-  rowTurned row t = set row (t .place) (step (at row (t .place)) (t .bytes) .drive)
-
-  here : (row : List Drive) (t : Turn) (i : ℕ) → i < length row → t .place ≡ i → at (rowTurned row t) i ≡ step (at row i) (t .bytes) .drive
+  -- what the row after one turn has at the turn's place, and at another
+  here : (row : List Drive) (t : Turn) (i : ℕ) → i < length row → t .place ≡ i → at (rowWith step row t) i ≡ step (at row i) (t .bytes) .drive
   here row t i h e = rw e (getD-set-same row i _ freshDrive h)
 
-  elsewhere : (row : List Drive) (t : Turn) (i : ℕ) → (t .place ≡ i → ⊥) → at (rowTurned row t) i ≡ at row i
+  elsewhere : (row : List Drive) (t : Turn) (i : ℕ) → (t .place ≡ i → ⊥) → at (rowWith step row t) i ≡ at row i
   elsewhere row t i n = getD-set-other row (t .place) i _ freshDrive (λ e. n (sym e))
 
   turns-drive : (row : List Drive) (ts : List Turn) (i : ℕ) → i < length row
@@ -61,7 +58,7 @@ module _ (step : Step) where
   unfolding rowAfter sharedOut outcomes driveAfter
   turns-drive row [] i h = refl
   turns-drive row (t ∷ ts) i h =
-      turns-drive (rowTurned row t) ts i (lt-length-set row (t .place) _ h)
+      turns-drive (rowWith step row t) ts i (lt-length-set row (t .place) _ h)
       ∙ cases (eqb (t .place) i)
       (λ q. rw (q, here row t i h (eqb-true _ i q)))
       (λ q. rw (q, elsewhere row t i (eqb-false _ i q)))
@@ -71,7 +68,7 @@ module _ (step : Step) where
   unfolding turned sharedOut ownOf outcomes
   turns-answers row [] i h = refl
   turns-answers row (t ∷ ts) i h =
-      let rest = turns-answers (rowTurned row t) ts i (lt-length-set row (t .place) _ h) in
+      let rest = turns-answers (rowWith step row t) ts i (lt-length-set row (t .place) _ h) in
       cases (eqb (t .place) i)
       (λ q. rw (q, rest, here row t i h (eqb-true _ i q), eqb-true _ i q))
       (λ q. rw (q, rest, elsewhere row t i (eqb-false _ i q)))

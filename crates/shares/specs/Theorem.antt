@@ -1,19 +1,17 @@
 -- "What was promised of one drive's list of events now holds, for each drive that was fresh at first, of its own share of the hall's
 -- calls": whatever the other drives were, and whatever the calls list and have room for.
-use mathlib.Core.Path.{_≡_, refl, _∙_}
-use mathlib.Core.List.{List, [], _∷_}
-use Prim.Native.Nat.{ℕ, _+_, _<_}
-use native.Mathlib.Omega.{arith}
+use mathlib.Core.Path.{_≡_, _∙_}
+use mathlib.Core.List.{List, []}
+use Prim.Native.Nat.{ℕ, _<_}
 use native.Mathlib.Nat.{zero-add}
 use lib.ListN.{length}
 use Rattle.damper.specs.declared.Drive.{Drive}
 use Rattle.damper.specs.Record.{freshDrive}
 use Rattle.damper.specs.Step.{stepOf}
-use Rattle.damper.specs.Carry.{outcomes}
 use Rattle.hall.specs.Hall.{Call, at, share, own}
 use Rattle.history.specs.Log.{logIn}
-use Rattle.history.specs.Claim.{Trace, momentOf, Claim, traceOn, reportsFrom}
-use Rattle.history.specs.Theorem.{demand-3}
+use Rattle.history.specs.Claim.{Trace, Claim, traceOn, reportsFrom}
+use Rattle.history.specs.Theorem.{demand-3, trace-length}
 use Rattle.history.specs.LogLaws.{log-read}
 use Rattle.shares.specs.Shares.{share-answers}
 
@@ -32,10 +30,5 @@ share-log row cs i h fresh = rw (share-answers stepOf row cs i h, fresh) (log-re
 
 -- The trace has as many records as the share, whatever the drive was.
 pub share-whole : (row : List Drive) (cs : List Call) (i : ℕ) → i < length row → length (shareTrace row i cs) ≡ length (share (length row) i cs)
-unfolding outcomes traceOn
 share-whole row cs i h =
-    rw (share-answers stepOf row cs i h) (go (share (length row) i cs) (at row i) [] ∙ zero-add (length (share (length row) i cs)))
-  where
-    go : (l : List (List ℕ)) (d : Drive) (t : Trace) → length (traceOn t l (outcomes stepOf d l)) ≡ length t + length l
-    go [] d t = omega arith
-    go (s ∷ l) d t = let o = stepOf d s in go l (o .drive) (momentOf s o ∷ t) ∙ omega arith
+    rw (share-answers stepOf row cs i h) (trace-length stepOf (share (length row) i cs) (at row i) [] ∙ zero-add (length (share (length row) i cs)))

@@ -3,24 +3,18 @@
 use mathlib.Core.Path.{_≡_, refl}
 use mathlib.Core.List.{List, [], _∷_, map}
 use Prim.Native.Nat.{ℕ, _+_, _*_}
-use lib.Count.{leadingZeros}
 use lib.ListN.{length, replicate, set}
-use Rattle.table.specs.Table.{freshValues, allIn, placeFrom}
-use Rattle.event.specs.Event.{formOf, dataRefusal, recordRefusal, readOf}
-use Rattle.motion.specs.Motion.{toPosition, toPercent, runTicks, toward, motor}
-use Rattle.rules.specs.Commands.{noCommands, interlocked, commandsFit}
-use Rattle.rules.specs.Rank.{rulingRank, activeByte, backupTarget, targets}
-use Rattle.rules.specs.Report.{status}
-use Rattle.rules.specs.Refusal.{stateRefusal, refusal}
+use Rattle.table.specs.Table.{freshValues}
+use Rattle.event.specs.Event.{readOf}
+use Rattle.rules.specs.Commands.{noCommands, interlocked}
 use Rattle.answer.specs.declared.Answer.{Answer}
 use Rattle.answer.specs.declared.Answer.the-variants.{Done, Par, Report}
 use Rattle.damper.specs.declared.Drive.{Drive}
 use Rattle.damper.specs.declared.Outcome.{Outcome}
 use Rattle.damper.specs.Record.{drive, last, noRun, freshDrive, withPosition}
-use Rattle.damper.specs.WellFormed.{runFits, lastFits, wellFormed}
-use Rattle.damper.specs.Tick.{aged, targetAt, moved, ranDown, advance, dueWith}
-use Rattle.damper.specs.Step.{outcome, tickWith, ticked, commanded, calibrated, restarted, obeyed, applied, refusalOf, stepOf}
+use Rattle.damper.specs.Step.{outcome, stepOf}
 use Rattle.damper.specs.Carry.{Step, answersIn}
+use Rattle.damper.specs.Closed as Closed
 use Rattle.hall.specs.Hall as H
 use Rattle.hall.specs.Hall.{Call, give, unknown, callRefusal, turnsOf, at, turned, rowAfter, answersAfter, turnsIn, hallAfter, hallTurned, sharedOut, ownOf, share, own}
 use Rattle.history.specs.Log.{entry}
@@ -28,7 +22,7 @@ use Rattle.history.specs.Claim.{reportsFrom}
 
 -- `unfolding computation` opens drive and hall, so that a list of calls computes
 unfoldable computation : Unit {0}
-unfolding leadingZeros allIn placeFrom formOf dataRefusal recordRefusal readOf toPosition toPercent runTicks toward motor commandsFit rulingRank activeByte backupTarget targets status stateRefusal refusal runFits lastFits wellFormed aged targetAt moved ranDown advance dueWith tickWith ticked commanded calibrated restarted obeyed applied refusalOf stepOf answersIn unknown callRefusal turnsOf turned rowAfter answersAfter turnsIn hallAfter hallTurned sharedOut ownOf reportsFrom
+unfolding Closed.computation readOf answersIn unknown callRefusal turnsOf turned rowAfter answersAfter turnsIn hallAfter hallTurned sharedOut ownOf reportsFrom
 computation = tt
 
 -- the event records, as bytes
