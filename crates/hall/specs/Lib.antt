@@ -1,3 +1,4 @@
 -- A hall of drives: its calls, their turns and each drive's share of them.
 pub mod Hall
 pub mod Laws
+pub mod NumberLaws
