@@ -256,7 +256,7 @@ static void count(const call *c, uint8_t refusal, const unsigned *named)
     counts[EQUAL] += c->places == asked;
     counts[LONGER] += c->places > asked;
     if (c->ticks) {
-        counts[TICK_14] += refusal == DAMPER_HALL_REFUSAL_DRIVES;
+        counts[TICK_14] += refusal == DAMPER_HALL_REFUSAL_ROW;
         counts[TICK_16] += refusal == DAMPER_HALL_REFUSAL_CALL;
         counts[TICK_GIVEN] += refusal == 0;
         for (size_t i = 0; refusal == 0 && i < c->drives; i++) {
@@ -272,7 +272,7 @@ static void count(const call *c, uint8_t refusal, const unsigned *named)
         if (c->list[k] >= c->drives)
             bad = k;
     switch (refusal) {
-    case DAMPER_HALL_REFUSAL_DRIVES: counts[EVENT_14]++; break;
+    case DAMPER_HALL_REFUSAL_ROW: counts[EVENT_14]++; break;
     case DAMPER_HALL_REFUSAL_NUMBER:
         counts[EVENT_15]++;
         counts[BAD_BEYOND] += bad >= DAMPER_HALL_MOST;

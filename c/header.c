@@ -526,7 +526,7 @@ static void hall_events(damper_drive fresh)
 static void hall_refusals(damper_drive fresh)
 {
     const size_t most = DAMPER_HALL_MOST;
-    const unsigned no_hall = DAMPER_HALL_REFUSAL_DRIVES, no_drive = DAMPER_HALL_REFUSAL_NUMBER;
+    const unsigned no_hall = DAMPER_HALL_REFUSAL_ROW, no_drive = DAMPER_HALL_REFUSAL_NUMBER;
     const unsigned no_call = DAMPER_HALL_REFUSAL_CALL;
     uint32_t list[DAMPER_HALL_MOST + 6];
     for (uint32_t k = 0; k < DAMPER_HALL_MOST + 6; k++)
@@ -649,11 +649,11 @@ static void null_pointers(damper_drive fresh)
     CHECK(damper_replay(fresh, record, sizeof record, &word, 1, NULL, 0).count == 0 && word == 9 && code == 9);
 
     const uint32_t list[1] = {0};
-    CHECK(damper_hall_event(NULL, 0, NULL, 0, NULL, 0, NULL, 0) == DAMPER_HALL_REFUSAL_DRIVES);
+    CHECK(damper_hall_event(NULL, 0, NULL, 0, NULL, 0, NULL, 0) == DAMPER_HALL_REFUSAL_ROW);
     CHECK(damper_hall_event(&fresh, 1, NULL, 0, NULL, 0, NULL, 0) == 0);
     CHECK(damper_hall_event(&fresh, 1, list, 1, NULL, 0, &word, 1) == 0 && word == DAMPER_REFUSAL_LENGTH);
     CHECK(damper_hall_event(&fresh, 1, list, 1, NULL, 0, NULL, 0) == DAMPER_HALL_REFUSAL_CALL);
-    CHECK(damper_hall_tick(NULL, 0, NULL, 0) == DAMPER_HALL_REFUSAL_DRIVES);
+    CHECK(damper_hall_tick(NULL, 0, NULL, 0) == DAMPER_HALL_REFUSAL_ROW);
     CHECK(damper_hall_tick(&fresh, 1, NULL, 0) == DAMPER_HALL_REFUSAL_CALL && fresh.since == 0);
 }
 

@@ -410,7 +410,7 @@ uint8_t plain_hall_event(damper_drive *row, size_t drives, const uint32_t *list,
                          size_t length, uint8_t *answers, size_t places)
 {
     if (!hall_fits(drives))
-        return DAMPER_HALL_REFUSAL_DRIVES;
+        return DAMPER_HALL_REFUSAL_ROW;
     for (size_t k = 0; k < entries; k++)
         if (list[k] >= drives)
             return DAMPER_HALL_REFUSAL_NUMBER;
@@ -426,7 +426,7 @@ uint8_t plain_hall_event(damper_drive *row, size_t drives, const uint32_t *list,
 uint8_t plain_hall_tick(damper_drive *row, size_t drives, uint32_t *numbers, size_t places)
 {
     if (!hall_fits(drives))
-        return DAMPER_HALL_REFUSAL_DRIVES;
+        return DAMPER_HALL_REFUSAL_ROW;
     if (places < drives)
         return DAMPER_HALL_REFUSAL_CALL;
     for (size_t i = 0; i < drives; i++) {

@@ -195,7 +195,7 @@ enum damper_refusal {
 
 /* Why a call of a hall is turned down as a whole: the first that fits. No drive is given anything then. */
 enum damper_hall_refusal {
-    DAMPER_HALL_REFUSAL_DRIVES = 14, /* the row has no drive, or over DAMPER_HALL_MOST */
+    DAMPER_HALL_REFUSAL_ROW = 14,    /* the row has no drive, or over DAMPER_HALL_MOST */
     DAMPER_HALL_REFUSAL_NUMBER = 15, /* a number of the list is not below the row's length */
     DAMPER_HALL_REFUSAL_CALL = 16    /* an accepted tick, a list over DAMPER_HALL_MOST, or too few places for the answers */
 };

@@ -33,12 +33,15 @@ unknown n [] = false
 unknown n (i ∷ list) = leb n i || unknown n list
 
 -- 16: "when the bytes are a tick that the reader accepts, the list has over 64 entries, or the answer row is shorter than the list"
-abbrev pub isTick : Decoded → Bool
-isTick (Accepted e) = eqb (e .kind) Kind.tick
-isTick (Refused n) = false
+abbrev pub readAsTick : Decoded → Bool
+readAsTick (Accepted e) = eqb (e .kind) Kind.tick
+readAsTick (Refused n) = false
+
+abbrev pub isTick : List ℕ → Bool
+isTick s = readAsTick (readOf s)
 
 abbrev pub misgiven : List ℕ → List ℕ → ℕ → Bool
-misgiven list s room = (isTick (readOf s) || ltb 64 (length list)) || ltb room (length list)
+misgiven list s room = (isTick s || ltb 64 (length list)) || ltb room (length list)
 
 -- "14 to 16 come before 1 to 13, in this order": the first that fits a call on `n` drives, 0 if none does; "(for the hall tick, than
 -- the row of drives)"

@@ -13,7 +13,6 @@ use borrow.Author.Tests.{lt-leb, le-leb, leb-false, ltb-false, eqb-true}
 use Rattle.numbers.specs.Numbers.{pick}
 use Rattle.numbers.specs.Laws.{or-left, or-right, passed, cases}
 use Rattle.answer.specs.declared.Answer.{Answer}
-use Rattle.event.specs.Event.{readOf}
 use Rattle.damper.specs.declared.Drive.{Drive}
 use Rattle.damper.specs.declared.Outcome.{Outcome}
 use Rattle.damper.specs.Carry.{Step, answersIn}
@@ -51,8 +50,8 @@ given-fits n list s room e =
     let r = passed (badRow n) 14 _ e (omega arith) in
     let u = passed (unknown n list) 15 _ (r .1) (omega arith) in
     let m = passed (misgiven list s room) 16 _ (u .1) (omega arith) .0 in
-    let most = or-right (isTick (readOf s)) _ (or-left (isTick (readOf s) || ltb 64 (length list)) _ m) in
-    (known-at n list (u .0), ltb-false 64 _ most, ltb-false room _ (or-right (isTick (readOf s) || ltb 64 (length list)) _ m))
+    let most = or-right (isTick s) _ (or-left (isTick s || ltb 64 (length list)) _ m) in
+    (known-at n list (u .0), ltb-false 64 _ most, ltb-false room _ (or-right (isTick s || ltb 64 (length list)) _ m))
 
 ticked-fits : (n room : ℕ) → callRefusal n (tick room) ≡ 0 → (n ≤ 64) × (n ≤ room)
 unfolding callRefusal

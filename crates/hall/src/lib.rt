@@ -4,7 +4,6 @@ ghost use Prim.Native.Nat.{_<_};
 ghost use lib.Dec.{eqb};
 ghost use lib.ListN.{length, getD};
 ghost use Rattle.numbers.specs.Numbers.{pick};
-ghost use Rattle.event.specs.Event.{readOf};
 ghost use Rattle.hall.specs.Hall.{give, tick, badRow, unknown, isTick, callRefusal};
 use event::Decoded;
 use numbers::pick8;
@@ -42,7 +41,7 @@ fn unknown(drives: usize, list: &[u32]) -> bool
 
 // Whether the reader accepts the bytes as a tick.
 fn is_tick(s: &[u8]) -> bool
-    ensures { λ r. ⌜ r ≡ isTick (readOf (now (s .entry))) ⌝ }
+    ensures { λ r. ⌜ r ≡ isTick (now (s .entry)) ⌝ }
 {
     match event::read(s) {
         Decoded::Accepted(e) => e.kind == event::TICK,

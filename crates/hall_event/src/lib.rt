@@ -56,7 +56,12 @@ fn give_one(d: Drive, s: &[u8]) -> Given
 // Gives the bytes of an event other than a tick to the drives that the list names, in its order, and fills one answer number for
 // each entry. Refused by 14, 15 or 16, it changes nothing.
 #[no_mangle]
-pub extern "C" fn damper_hall_event(row: &mut [Drive], list: &[u32], s: &[u8], answers: &mut [u8]) -> u8
+pub extern "C" fn damper_hall_event(
+    row: &mut [Drive],
+    list: &[u32],
+    s: &[u8],
+    answers: &mut [u8],
+) -> u8
     ensures { λ r. ⌜ (r ≡ callRefusal (length (now (row .entry))) (give (now (list .entry)) (now (s .entry)) (length (now (answers .entry)))))
         × (now (row .exit) ≡ rowAfter stepOf (now (row .entry)) (turnsOf (length (now (row .entry))) (give (now (list .entry)) (now (s .entry)) (length (now (answers .entry))))))
         × (now (answers .exit) ≡ answersAfter stepOf (now (row .entry)) (give (now (list .entry)) (now (s .entry)) (length (now (answers .entry)))) (now (answers .entry))) ⌝ }

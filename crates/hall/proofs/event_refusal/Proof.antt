@@ -13,7 +13,8 @@ returns c =
       c .before .before .pick8 .ensures,
       judged .unknown .ensures,
       judged .before .bad-row .ensures,
-      judged .before .before .is-tick .ensures)
+      judged .before .before .is-tick .ensures,
+    )
 
 pub event-refusal-spec : {M : Type 1} → statement M
 event-refusal-spec =
