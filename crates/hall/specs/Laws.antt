@@ -22,7 +22,8 @@ use Rattle.hall.specs.Hall.{Call, give, tick, badRow, unknown, isTick, m
 -- the numbers of a list from `k` on: the one at `k`, and those behind it
 pub unknown-here : (n k : ℕ) (list : List ℕ) → k < length list → n ≤ getD list k 0 → unknown n (drop k list) ≡ true
 unfolding unknown
-unknown-here n k list h l = rw (drop-cons list k 0, le-leb _ _ l)
+unknown-here n k list h l =
+    rw (drop-cons list k 0) (ap (λ (b : Bool). b || unknown n (drop (suc k) list)) (le-leb n (getD list k 0) l))
 
 pub known-here : (n k : ℕ) (list : List ℕ) → k < length list → getD list k 0 < n → unknown n (drop k list) ≡ unknown n (drop (k + 1) list)
 unfolding unknown

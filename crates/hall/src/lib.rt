@@ -60,12 +60,10 @@ fn bad_row(drives: usize) -> bool
 pub fn event_refusal(drives: usize, list: &[u32], s: &[u8], places: usize) -> u8
     ensures { λ r. ⌜ r ≡ callRefusal drives (give (now (list .entry)) (now (s .entry)) places) ⌝ }
 {
+    let bad = bad_row(drives);
+    let stray = unknown(drives, list);
     let misgiven = is_tick(s) | (MOST < list.len()) | (places < list.len());
-    pick8(
-        bad_row(drives),
-        14,
-        pick8(unknown(drives, list), 15, pick8(misgiven, 16, 0)),
-    )
+    pick8(bad, 14, pick8(stray, 15, pick8(misgiven, 16, 0)))
 }
 
 // The first of 14 and 16 that fits a hall tick, or 0.

@@ -11,9 +11,9 @@ returns c =
       c .pick83 .ensures,
       c .before .pick82 .ensures,
       c .before .before .pick8 .ensures,
-      judged .unknown .ensures,
-      judged .before .bad-row .ensures,
-      judged .before .before .is-tick .ensures,
+      judged .is-tick .ensures,
+      judged .before .unknown .ensures,
+      judged .before .before .bad-row .ensures,
     )
 
 pub event-refusal-spec : {M : Type 1} → statement M
