@@ -57,6 +57,7 @@ fn spend_on_halls(who: &str, what: &str, n: usize) {
     let hall: &dyn Hall = match who {
         "proved" => &Proved,
         "model" => &HallModel,
+        "plain" => &Plain,
         _ => return,
     };
     for i in 0..n / HALL_MOST {
@@ -177,7 +178,7 @@ fn any_order() -> [u32; HALL_MOST] {
     std::array::from_fn(|i| (i as u32 * 37 + 11) % 64)
 }
 
-/// Calls on halls of `size` by the two, with the same drives and answers after them. `call` also gets the
+/// Calls on halls of `size` by the three, with the same drives and answers after them. `call` also gets the
 /// count of calls so far.
 fn on_halls<T: Clone + PartialEq + Default>(
     what: &str,
@@ -198,11 +199,16 @@ fn on_halls<T: Clone + PartialEq + Default>(
         }
     };
     let lent = || (first.clone(), vec![T::default(); first.len()]);
-    let (mut proved, mut model) = (lent(), lent());
+    let (mut proved, mut model, mut plain) = (lent(), lent(), lent());
     let drives = first.len() * CALLS * ANEW;
-    Rounds::of(drives, [&mut || all(&Proved, &mut proved), &mut || all(&HallModel, &mut model)])
-        .show(what, "drive");
-    assert!(proved == model, "the halls differ");
+    Rounds::of(
+        drives,
+        [&mut || all(&Proved, &mut proved), &mut || all(&HallModel, &mut model), &mut || {
+            all(&Plain, &mut plain)
+        }],
+    )
+    .show(what, "drive");
+    assert!(proved == model && model == plain, "the halls differ");
 }
 
 fn halls() {

@@ -1,5 +1,6 @@
-//! The plain C drive of `c/plain.c`, for the benchmark.
+//! The plain C drive and hall of `c/plain.c`, for the benchmark.
 
+use crate::subject::Hall;
 use damper::{Answer, Drive};
 
 extern "C" {
@@ -15,6 +16,17 @@ extern "C" {
         codes: *mut u32,
         codes_length: usize,
     ) -> usize;
+    fn plain_hall_event(
+        row: *mut Drive,
+        drives: usize,
+        list: *const u32,
+        entries: usize,
+        bytes: *const u8,
+        length: usize,
+        answers: *mut u8,
+        places: usize,
+    ) -> u8;
+    fn plain_hall_tick(row: *mut Drive, drives: usize, numbers: *mut u32, places: usize) -> u8;
 }
 
 pub struct Plain;
@@ -61,5 +73,28 @@ impl Plain {
             )
         };
         (drive, count)
+    }
+}
+
+impl Hall for Plain {
+    fn event(&self, row: &mut [Drive], list: &[u32], bytes: &[u8], answers: &mut [u8]) -> u8 {
+        // SAFETY: each pointer goes with the length of its slice.
+        unsafe {
+            plain_hall_event(
+                row.as_mut_ptr(),
+                row.len(),
+                list.as_ptr(),
+                list.len(),
+                bytes.as_ptr(),
+                bytes.len(),
+                answers.as_mut_ptr(),
+                answers.len(),
+            )
+        }
+    }
+
+    fn tick(&self, row: &mut [Drive], numbers: &mut [u32]) -> u8 {
+        // SAFETY: each pointer goes with the length of its slice.
+        unsafe { plain_hall_tick(row.as_mut_ptr(), row.len(), numbers.as_mut_ptr(), numbers.len()) }
     }
 }
