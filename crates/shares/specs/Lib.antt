@@ -1,4 +1,6 @@
--- A hall's calls seen from each of its drives: its own share of them decides its record and its answers, and demand 3 holds of it.
+-- A hall's calls seen from each of its drives: its own share of them decides its record and its answers, demand 3 holds of it, and a
+-- host reads its reports off the numbers of the hall ticks.
 pub mod Shares
 pub mod Theorem
+pub mod HostLog
 pub mod Witnesses

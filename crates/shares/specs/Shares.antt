@@ -50,10 +50,10 @@ module _ (step : Step) where
   here : (row : List Drive) (t : Turn) (i : ℕ) → i < length row → t .place ≡ i → at (rowWith step row t) i ≡ step (at row i) (t .bytes) .drive
   here row t i h e = rw e (getD-set-same row i _ freshDrive h)
 
-  elsewhere : (row : List Drive) (t : Turn) (i : ℕ) → (t .place ≡ i → ⊥) → at (rowWith step row t) i ≡ at row i
+  pub elsewhere : (row : List Drive) (t : Turn) (i : ℕ) → (t .place ≡ i → ⊥) → at (rowWith step row t) i ≡ at row i
   elsewhere row t i n = getD-set-other row (t .place) i _ freshDrive (λ e. n (sym e))
 
-  turns-drive : (row : List Drive) (ts : List Turn) (i : ℕ) → i < length row
+  pub turns-drive : (row : List Drive) (ts : List Turn) (i : ℕ) → i < length row
       → at (rowAfter step row ts) i ≡ driveAfter (at row i) (outcomes step (at row i) (sharedOut i ts))
   unfolding rowAfter sharedOut outcomes driveAfter
   turns-drive row [] i h = refl

@@ -7,6 +7,7 @@ use lib.ListN.{length, replicate, set}
 use Rattle.table.specs.Table.{freshValues}
 use Rattle.event.specs.Event.{readOf}
 use Rattle.rules.specs.Commands.{noCommands, interlocked}
+use Rattle.rules.specs.Report.{sent}
 use Rattle.answer.specs.declared.Answer.{Answer}
 use Rattle.answer.specs.declared.Answer.the-variants.{Done, Par, Report}
 use Rattle.damper.specs.declared.Drive.{Drive}
@@ -19,10 +20,11 @@ use Rattle.hall.specs.Hall as H
 use Rattle.hall.specs.Hall.{Call, give, unknown, callRefusal, turnsOf, at, turned, rowAfter, answersAfter, turnsIn, hallAfter, hallTurned, sharedOut, ownOf, share, own}
 use Rattle.history.specs.Log.{entry}
 use Rattle.history.specs.Claim.{reportsFrom}
+use Rattle.shares.specs.HostLog.{Lent, hostLog}
 
 -- `unfolding computation` opens drive and hall, so that a list of calls computes
 unfoldable computation : Unit {0}
-unfolding Closed.computation readOf answersIn unknown callRefusal turnsOf turned rowAfter answersAfter turnsIn hallAfter hallTurned sharedOut ownOf reportsFrom
+unfolding Closed.computation readOf answersIn unknown callRefusal turnsOf turned rowAfter answersAfter turnsIn hallAfter hallTurned sharedOut ownOf reportsFrom hostLog
 computation = tt
 
 -- the event records, as bytes
@@ -153,3 +155,14 @@ pub twice : (answersOf (own counting hall 0 (calibrating (0 ∷ 0 ∷ []))) ≡ 
     × (at (hallAfter counting hall (calibrating (0 ∷ 0 ∷ []))) 0 .position ≡ 2)
 unfolding computation
 twice = (refl, refl)
+
+-- What a host notes that lends rows with old reports in them: what its hall ticks report, also of a damper that is closed without
+-- status, and nothing of the drive that is not well formed.
+abbrev lent : List Lent
+lent = map (λ c. record { call = c; row = replicate (roomOf c) (report 7 1) }) calls
+
+pub noted : (hostLog hall 0 lent ≡ sent 5 0 ∷ sent 10 0 ∷ [])
+    × (hostLog hall 1 lent ≡ [])
+    × (hostLog hall 2 lent ≡ sent 72 4 ∷ sent 0 0 ∷ [])
+unfolding computation
+noted = (refl, refl, refl)
