@@ -1,21 +1,15 @@
 -- Laws of the number that a host gets for a drive at a hall tick, for every record.
-use mathlib.Core.Path.{_≡_, refl, _∙_}
-use mathlib.Core.Bool.{Bool, true, false, not, _||_}
-use Prim.Native.Nat.{ℕ, _+_, _*_, _-_, _/_, _%_, _<_, _≤_}
-use native.Mathlib.Omega.{arith}
-use lib.Dec.{leb}
-use borrow.Author.Tests.{le-leb, lt-leb}
-use Rattle.numbers.specs.Numbers.{pick, on, bit}
-use Rattle.numbers.specs.Laws.{cases}
+use mathlib.Core.Path.{_≡_, refl}
+use mathlib.Core.Bool.{Bool, true, false}
+use Prim.Native.Nat.{_+_, _*_}
+use Rattle.numbers.specs.Numbers.{pick}
 use Rattle.event.specs.Event.{formOf, dataRefusal, recordRefusal}
-use Rattle.rules.specs.Rank.{calibrating, syncing, forced}
-use Rattle.rules.specs.Report.{status, Sent, silent, sent}
 use Rattle.rules.specs.Refusal.{stateRefusal, refusal}
 use Rattle.damper.specs.declared.Drive.{Drive}
 use Rattle.damper.specs.declared.Advanced.{Advanced}
 use Rattle.damper.specs.WellFormed.{wellFormed}
 use Rattle.damper.specs.Tick.{advance, due, statusOf}
-use Rattle.damper.specs.Step.{outcome, tickWith, ticked, applied, refusalOf, stepOf}
+use Rattle.damper.specs.Step.{tickWith, ticked, applied, refusalOf, stepOf}
 use Rattle.hall.specs.Hall.{tickBytes, tickNumber}
 
 -- a well-formed drive takes the tick

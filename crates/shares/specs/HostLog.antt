@@ -93,7 +93,7 @@ number-read d =
     (λ w. rw w)
 
 -- an event other than a tick is answered by no report
-pub quiet : (d : Drive) (s : List ℕ) → isTick (readOf s) ≡ false → reportIn (stepOf d s .answer) ≡ silent
+pub quiet : (d : Drive) (s : List ℕ) → isTick s ≡ false → reportIn (stepOf d s .answer) ≡ silent
 unfolding readOf
 quiet d s t =
     cases (eqb (refusalOf d s) 0)
@@ -122,14 +122,14 @@ said-reports n (o ∷ os) = rw (said-reports (n + 1) os) (sym (said-entry (n + 1
 -- What a call says of a drive is what its turns of the call say.
 
 -- an accepted event call gives no tick, and its turns say nothing
-no-tick : (n : ℕ) (list s : List ℕ) (room : ℕ) → callRefusal n (give list s room) ≡ 0 → isTick (readOf s) ≡ false
+no-tick : (n : ℕ) (list s : List ℕ) (room : ℕ) → callRefusal n (give list s room) ≡ 0 → isTick s ≡ false
 unfolding callRefusal
 no-tick n list s room e =
     let u = passed (unknown n list) 15 _ (passed (badRow n) 14 _ e (omega arith) .1) (omega arith) in
     let m = passed (misgiven list s room) 16 0 (u .1) (omega arith) .0 in
-    or-left (isTick (readOf s)) _ (or-left (isTick (readOf s) || ltb 64 (length list)) _ m)
+    or-left (isTick s) _ (or-left (isTick s || ltb 64 (length list)) _ m)
 
-unsaid : (i : ℕ) (s : List ℕ) → isTick (readOf s) ≡ false → (d : Drive) (list : List ℕ) (later : List Outcome)
+unsaid : (i : ℕ) (s : List ℕ) → isTick s ≡ false → (d : Drive) (list : List ℕ) (later : List Outcome)
     → said (outcomes stepOf d (sharedOut i (map (turn s) list)) ++ later) ≡ said later
 unfolding said outcomes sharedOut
 unsaid i s t d [] later = refl
