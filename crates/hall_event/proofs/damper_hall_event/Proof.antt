@@ -1,6 +1,6 @@
--- A walk of the code by hand: `event_refusal` and `turns` are called, both borrows are opened, each turn calls `entry`, takes the drive
--- that it names out of the row, calls `give_one` and puts back what it gives, and the borrows are closed. Of the functions called only
--- their contracts are used.
+-- A walk of the code, step by step, written by tools/walks/hall_event.py: `event_refusal` and `turns` are called, both borrows are
+-- opened, each turn calls `entry`, takes the drive that it names out of the row, calls `give_one` and puts back what it gives, and the
+-- borrows are closed. Of the functions called only their contracts are used.
 use mathlib.Core.Path.{_≡_, refl, sym, _∙_, ap, subst}
 use Prim.Native.Nat.{ℕ, _+_, _-_, _<_, _≤_, _*_, _^_, zero-le}
 use native.Mathlib.Nat.{le-antisymm}

@@ -1,5 +1,6 @@
--- A walk of the code by hand: `tick_refusal` and `turns` are called, both borrows are opened, each turn takes a drive out of the row,
--- calls `tick_one` and puts back what it gives, and the borrows are closed. Of the functions called only their contracts are used.
+-- A walk of the code, step by step, written by tools/walks/hall_tick.py: `tick_refusal` and `turns` are called, both borrows are
+-- opened, each turn takes a drive out of the row, calls `tick_one` and puts back what it gives, and the borrows are closed. Of the
+-- functions called only their contracts are used.
 use mathlib.Core.Path.{_≡_, refl, sym, _∙_, ap, subst}
 use Prim.Native.Nat.{ℕ, _+_, _-_, _<_, _≤_, _*_, _^_, zero-le}
 use native.Mathlib.Nat.{le-antisymm}
