@@ -2,3 +2,4 @@
 pub mod Hall
 pub mod Laws
 pub mod NumberLaws
+pub mod Corners

@@ -1,0 +1,81 @@
+-- When a call is refused itself, corner by corner, by computation.
+use mathlib.Core.Path.{_≡_, refl}
+use mathlib.Core.List.{List, [], _∷_, _++_, map}
+use Prim.Native.Nat.{ℕ}
+use lib.ListN.{replicate}
+use Rattle.event.specs.Event.{event, bytesOf, readOf}
+use Rattle.answer.specs.Answer.{numberOf}
+use Rattle.damper.specs.Record.{freshDrive}
+use Rattle.damper.specs.Step.{stepOf}
+use Rattle.damper.specs.Closed.{computation}
+use Rattle.hall.specs.Hall.{Call, give, tick, tickBytes, unknown, callRefusal, turnsOf}
+
+-- how many drives, the call, and what refuses it
+pub record Corner : Type 0 where
+  pub drives : ℕ
+  pub call : Call
+  pub number : ℕ
+
+abbrev corner : ℕ → Call → ℕ → Corner
+corner n c r = record { drives = n; call = c; number = r }
+
+abbrev setpoint : List ℕ
+setpoint = bytesOf (event 2 128 0 0)
+
+-- a tick with an unused byte that is not 0
+abbrev damaged : List ℕ
+damaged = bytesOf (event 1 0 0 1)
+
+abbrev pub table : List Corner
+table =
+    -- rows of none, of 1, of 64 and of 65
+    corner 0 (tick 0) 14
+    ∷ corner 1 (tick 1) 0
+    ∷ corner 64 (tick 64) 0
+    ∷ corner 65 (tick 65) 14
+    ∷ corner 0 (give [] setpoint 0) 14
+    ∷ corner 65 (give [] setpoint 0) 14
+    -- 14 before 15 and before 16
+    ∷ corner 0 (give (0 ∷ []) tickBytes 0) 14
+    ∷ corner 65 (tick 0) 14
+    -- a number that is the row's length, and one whose lowest byte is a drive's number
+    ∷ corner 8 (give (7 ∷ []) setpoint 1) 0
+    ∷ corner 8 (give (8 ∷ []) setpoint 1) 15
+    ∷ corner 8 (give (263 ∷ []) setpoint 1) 15
+    -- a bad number in the last place, beyond the 64th entry, beside an accepted tick, without room for the answers
+    ∷ corner 2 (give (0 ∷ 1 ∷ 2 ∷ []) setpoint 3) 15
+    ∷ corner 1 (give (replicate 64 0 ++ (1 ∷ [])) setpoint 65) 15
+    ∷ corner 1 (give (1 ∷ []) tickBytes 1) 15
+    ∷ corner 1 (give (1 ∷ []) setpoint 0) 15
+    -- 64 entries and 65
+    ∷ corner 1 (give (replicate 64 0) setpoint 64) 0
+    ∷ corner 1 (give (replicate 65 0) setpoint 65) 16
+    -- an accepted tick, also with an empty list; a damaged one is for the drives to refuse
+    ∷ corner 1 (give (0 ∷ []) tickBytes 1) 16
+    ∷ corner 1 (give [] tickBytes 0) 16
+    ∷ corner 1 (give (0 ∷ []) damaged 1) 0
+    ∷ corner 1 (give (0 ∷ []) [] 1) 0
+    -- another event with an empty list
+    ∷ corner 1 (give [] setpoint 0) 0
+    -- answer rows: one place short, just enough, one to spare
+    ∷ corner 2 (give (1 ∷ 0 ∷ []) setpoint 1) 16
+    ∷ corner 2 (give (1 ∷ 0 ∷ []) setpoint 2) 0
+    ∷ corner 2 (give (1 ∷ 0 ∷ []) setpoint 3) 0
+    ∷ corner 2 (tick 1) 16
+    ∷ corner 2 (tick 2) 0
+    ∷ corner 2 (tick 3) 0
+    ∷ []
+
+pub corners : map (λ (c : Corner). callRefusal (c .drives) (c .call)) table ≡ map (λ (c : Corner). c .number) table
+unfolding computation readOf unknown callRefusal
+corners = refl
+
+-- the damaged tick is refused by the drive, by 5
+pub damaged-refused : numberOf (stepOf freshDrive damaged .answer) ≡ 5
+unfolding computation
+damaged-refused = refl
+
+-- the empty list has no turns
+pub none-given : turnsOf 1 (give [] setpoint 0) ≡ []
+unfolding computation readOf unknown callRefusal turnsOf
+none-given = refl
