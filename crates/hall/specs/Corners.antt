@@ -8,7 +8,7 @@ use Rattle.answer.specs.Answer.{numberOf}
 use Rattle.damper.specs.Record.{freshDrive}
 use Rattle.damper.specs.Step.{stepOf}
 use Rattle.damper.specs.Closed.{computation}
-use Rattle.hall.specs.Hall.{Call, give, tick, tickBytes, unknown, callRefusal, turnsOf}
+use Rattle.hall.specs.Hall.{Call, give, tick, tickBytes, badNumber, callRefusal, turnsOf}
 
 -- how many drives, the call, and what refuses it
 pub record Corner : Type 0 where
@@ -67,7 +67,7 @@ table =
     ∷ []
 
 pub corners : map (λ (c : Corner). callRefusal (c .drives) (c .call)) table ≡ map (λ (c : Corner). c .number) table
-unfolding computation readOf unknown callRefusal
+unfolding computation readOf badNumber callRefusal
 corners = refl
 
 -- the damaged tick is refused by the drive, by 5
@@ -77,5 +77,5 @@ damaged-refused = refl
 
 -- the empty list has no turns
 pub none-given : turnsOf 1 (give [] setpoint 0) ≡ []
-unfolding computation readOf unknown callRefusal turnsOf
+unfolding computation readOf badNumber callRefusal turnsOf
 none-given = refl

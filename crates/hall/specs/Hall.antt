@@ -28,9 +28,9 @@ abbrev pub badRow : ℕ → Bool
 badRow n = ltb n 1 || ltb 64 n
 
 -- 15: "when a listed drive number is not below the row's length"
-unfoldable pub unknown : ℕ → List ℕ → Bool
-unknown n [] = false
-unknown n (i ∷ list) = leb n i || unknown n list
+unfoldable pub badNumber : ℕ → List ℕ → Bool
+badNumber n [] = false
+badNumber n (i ∷ list) = leb n i || badNumber n list
 
 -- 16: "when the bytes are a tick that the reader accepts, the list has over 64 entries, or the answer row is shorter than the list"
 abbrev pub readAsTick : Decoded → Bool
@@ -40,13 +40,13 @@ readAsTick (Refused n) = false
 abbrev pub isTick : List ℕ → Bool
 isTick s = readAsTick (readOf s)
 
-abbrev pub misgiven : List ℕ → List ℕ → ℕ → Bool
-misgiven list s room = (isTick s || ltb 64 (length list)) || ltb room (length list)
+abbrev pub badEvent : List ℕ → List ℕ → ℕ → Bool
+badEvent list s room = (isTick s || ltb 64 (length list)) || ltb room (length list)
 
 -- "14 to 16 come before 1 to 13, in this order": the first that fits a call on `n` drives, 0 if none does; "(for the hall tick, than
 -- the row of drives)"
 unfoldable pub callRefusal : ℕ → Call → ℕ
-callRefusal n (give list s room) = pick (badRow n) 14 (pick (unknown n list) 15 (pick (misgiven list s room) 16 0))
+callRefusal n (give list s room) = pick (badRow n) 14 (pick (badNumber n list) 15 (pick (badEvent list s room) 16 0))
 callRefusal n (tick room) = pick (badRow n) 14 (pick (ltb room n) 16 0)
 
 -- one event record given to the drive at one place of the row

@@ -17,28 +17,28 @@ use Rattle.damper.specs.declared.Drive.{Drive}
 use Rattle.damper.specs.declared.Outcome.{Outcome}
 use Rattle.damper.specs.Carry.{Step, answersIn}
 use Rattle.damper.specs.CarryLaws.{answers-more}
-use Rattle.hall.specs.Hall.{Call, give, tick, badRow, unknown, isTick, misgiven, callRefusal, Turn, turn, placesFrom, tickBytes, turnsOf, at, rowWith, turned, rowAfter, answerNumber, answersAfter}
+use Rattle.hall.specs.Hall.{Call, give, tick, badRow, badNumber, isTick, badEvent, callRefusal, Turn, turn, placesFrom, tickBytes, turnsOf, at, rowWith, turned, rowAfter, answerNumber, answersAfter}
 
 -- the numbers of a list from `k` on: the one at `k`, and those behind it
-pub unknown-here : (n k : ℕ) (list : List ℕ) → k < length list → n ≤ getD list k 0 → unknown n (drop k list) ≡ true
-unfolding unknown
-unknown-here n k list h l =
-    rw (drop-cons list k 0) (ap (λ (b : Bool). b || unknown n (drop (suc k) list)) (le-leb n (getD list k 0) l))
+pub bad-here : (n k : ℕ) (list : List ℕ) → k < length list → n ≤ getD list k 0 → badNumber n (drop k list) ≡ true
+unfolding badNumber
+bad-here n k list h l =
+    rw (drop-cons list k 0) (ap (λ (b : Bool). b || badNumber n (drop (suc k) list)) (le-leb n (getD list k 0) l))
 
-pub known-here : (n k : ℕ) (list : List ℕ) → k < length list → getD list k 0 < n → unknown n (drop k list) ≡ unknown n (drop (k + 1) list)
-unfolding unknown
-known-here n k list h l = rw (add-one, drop-cons list k 0, lt-leb _ _ l)
+pub good-here : (n k : ℕ) (list : List ℕ) → k < length list → getD list k 0 < n → badNumber n (drop k list) ≡ badNumber n (drop (k + 1) list)
+unfolding badNumber
+good-here n k list h l = rw (add-one, drop-cons list k 0, lt-leb _ _ l)
 
-pub known-end : (n k : ℕ) (list : List ℕ) → length list ≤ k → unknown n (drop k list) ≡ false
-unfolding unknown
-known-end n k list h = rw (drop-of-length-le list h)
+pub good-end : (n k : ℕ) (list : List ℕ) → length list ≤ k → badNumber n (drop k list) ≡ false
+unfolding badNumber
+good-end n k list h = rw (drop-of-length-le list h)
 
--- each number of a list that has no unknown one is that of a drive
-known-at : (n : ℕ) (list : List ℕ) → unknown n list ≡ false → (k : ℕ) → k < length list → getD list k 0 < n
-unfolding unknown
-known-at n [] e k h = absurd (not-suc-le-zero h)
-known-at n (i ∷ list) e zero h = leb-false n i (or-left (leb n i) _ e)
-known-at n (i ∷ list) e (suc k) h = known-at n list (or-right (leb n i) _ e) k (le-of-suc-le-suc h)
+-- each number of a list that has no badNumber one is that of a drive
+good-at : (n : ℕ) (list : List ℕ) → badNumber n list ≡ false → (k : ℕ) → k < length list → getD list k 0 < n
+unfolding badNumber
+good-at n [] e k h = absurd (not-suc-le-zero h)
+good-at n (i ∷ list) e zero h = leb-false n i (or-left (leb n i) _ e)
+good-at n (i ∷ list) e (suc k) h = good-at n list (or-right (leb n i) _ e) k (le-of-suc-le-suc h)
 
 -- An accepted call has room.
 
@@ -49,10 +49,10 @@ given-fits : (n : ℕ) (list s : List ℕ) (room : ℕ) → callRefusal n (give 
 unfolding callRefusal
 given-fits n list s room e =
     let r = passed (badRow n) 14 _ e (omega arith) in
-    let u = passed (unknown n list) 15 _ (r .1) (omega arith) in
-    let m = passed (misgiven list s room) 16 _ (u .1) (omega arith) .0 in
+    let u = passed (badNumber n list) 15 _ (r .1) (omega arith) in
+    let m = passed (badEvent list s room) 16 _ (u .1) (omega arith) .0 in
     let most = or-right (isTick s) _ (or-left (isTick s || ltb 64 (length list)) _ m) in
-    (known-at n list (u .0), ltb-false 64 _ most, ltb-false room _ (or-right (isTick s || ltb 64 (length list)) _ m))
+    (good-at n list (u .0), ltb-false 64 _ most, ltb-false room _ (or-right (isTick s || ltb 64 (length list)) _ m))
 
 ticked-fits : (n room : ℕ) → callRefusal n (tick room) ≡ 0 → (n ≤ 64) × (n ≤ room)
 unfolding callRefusal
@@ -149,12 +149,12 @@ unfolding rowAfter
 row-length step row [] = refl
 row-length step row (t ∷ ts) = row-length step (rowWith step row t) ts ∙ length-set row (t .place) _
 
-pub turned-length : (step : Step) (row : List Drive) (ts : List Turn) → length (turned step row ts) ≡ length ts
+turned-length : (step : Step) (row : List Drive) (ts : List Turn) → length (turned step row ts) ≡ length ts
 unfolding turned
 turned-length step row [] = refl
 turned-length step row (t ∷ ts) = ap suc (turned-length step (rowWith step row t) ts)
 
-pub answers-length : (number : Answer → ℕ) (os : List Outcome) (row : List ℕ) → length os ≤ length row → length (answersIn number os row) ≡ length row
+answers-length : (number : Answer → ℕ) (os : List Outcome) (row : List ℕ) → length os ≤ length row → length (answersIn number os row) ≡ length row
 unfolding answersIn
 answers-length number os row h = simp (length-append, length-map, length-drop) (omega arith)
 
@@ -187,7 +187,7 @@ module _ (step : Step) (row : List Drive) (c : Call) (answers : List ℕ) where
         answers-length (answerNumber c) _ answers (rw (turned-length step row (take k ts), length-take) (omega (arith, w .room)))
 
     -- the outcome of the next turn
-    abbrev pub next : ℕ → Outcome
+    abbrev next : ℕ → Outcome
     next k = step (at (rowBy k) (p k)) s
 
     more : (k : ℕ) → k < stop → take (k + 1) ts ≡ take k ts ++ (turn s (p k) ∷ [])

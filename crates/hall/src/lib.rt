@@ -4,7 +4,7 @@ ghost use Prim.Native.Nat.{_<_};
 ghost use lib.Dec.{eqb};
 ghost use lib.ListN.{length, getD};
 ghost use Rattle.numbers.specs.Numbers.{pick};
-ghost use Rattle.hall.specs.Hall.{give, tick, badRow, unknown, isTick, callRefusal};
+ghost use Rattle.hall.specs.Hall.{give, tick, badRow, badNumber, isTick, callRefusal};
 use event::Decoded;
 use numbers::pick8;
 
@@ -26,8 +26,8 @@ pub fn entry(list: &[u32], k: usize) -> usize
 }
 
 // Whether the list has a number that is not below the row's length.
-fn unknown(drives: usize, list: &[u32]) -> bool
-    ensures { λ r. ⌜ r ≡ unknown drives (now (list .entry)) ⌝ }
+fn bad_number(drives: usize, list: &[u32]) -> bool
+    ensures { λ r. ⌜ r ≡ badNumber drives (now (list .entry)) ⌝ }
 {
     let mut k: usize = 0;
     while k < list.len() {
@@ -60,10 +60,10 @@ fn bad_row(drives: usize) -> bool
 pub fn event_refusal(drives: usize, list: &[u32], s: &[u8], places: usize) -> u8
     ensures { λ r. ⌜ r ≡ callRefusal drives (give (now (list .entry)) (now (s .entry)) places) ⌝ }
 {
-    let bad = bad_row(drives);
-    let stray = unknown(drives, list);
-    let misgiven = is_tick(s) | (MOST < list.len()) | (places < list.len());
-    pick8(bad, 14, pick8(stray, 15, pick8(misgiven, 16, 0)))
+    let row = bad_row(drives);
+    let number = bad_number(drives, list);
+    let given = is_tick(s) | (MOST < list.len()) | (places < list.len());
+    pick8(row, 14, pick8(number, 15, pick8(given, 16, 0)))
 }
 
 // The first of 14 and 16 that fits a hall tick, or 0.

@@ -27,7 +27,7 @@ use Rattle.damper.specs.Laws.{refusal-none}
 use Rattle.damper.specs.Carry.{outcomes, answersIn}
 use Rattle.damper.specs.CarryLaws.{outcomes-append}
 use Rattle.invariant.specs.Effects.{report-after, step-accepted, step-refused, refusal-wf}
-use Rattle.hall.specs.Hall.{Call, give, tick, badRow, unknown, isTick, misgiven, callRefusal, Turn, turn, placesFrom, tickBytes, turnsOf, at, rowWith, turned, rowAfter, tickNumber, answersAfter, turnsIn, sharedOut, share}
+use Rattle.hall.specs.Hall.{Call, give, tick, badRow, badNumber, isTick, badEvent, callRefusal, Turn, turn, placesFrom, tickBytes, turnsOf, at, rowWith, turned, rowAfter, tickNumber, answersAfter, turnsIn, sharedOut, share}
 use Rattle.hall.specs.Laws.{row-length}
 use Rattle.history.specs.Log.{Entry, logIn}
 use Rattle.history.specs.Claim.{reportIn, entriesOf, reportsFrom}
@@ -125,8 +125,8 @@ said-reports n (o ∷ os) = rw (said-reports (n + 1) os) (sym (said-entry (n + 1
 no-tick : (n : ℕ) (list s : List ℕ) (room : ℕ) → callRefusal n (give list s room) ≡ 0 → isTick s ≡ false
 unfolding callRefusal
 no-tick n list s room e =
-    let u = passed (unknown n list) 15 _ (passed (badRow n) 14 _ e (omega arith) .1) (omega arith) in
-    let m = passed (misgiven list s room) 16 0 (u .1) (omega arith) .0 in
+    let u = passed (badNumber n list) 15 _ (passed (badRow n) 14 _ e (omega arith) .1) (omega arith) in
+    let m = passed (badEvent list s room) 16 0 (u .1) (omega arith) .0 in
     or-left (isTick s) _ (or-left (isTick s || ltb 64 (length list)) _ m)
 
 unsaid : (i : ℕ) (s : List ℕ) → isTick s ≡ false → (d : Drive) (list : List ℕ) (later : List Outcome)

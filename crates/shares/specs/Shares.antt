@@ -1,6 +1,6 @@
 -- For every step, every row of drives and every list of calls: a place ends with the drive, and its turns got the answers, that the
 -- list of its share gives to the drive that stood there.
-use mathlib.Core.Path.{_≡_, refl, sym, ap, _∙_}
+use mathlib.Core.Path.{_≡_, refl, sym, _∙_}
 use mathlib.Core.List.{List, [], _∷_}
 use Prim.Native.Nat.{ℕ, _<_}
 use lib.Dec.{eqb}
@@ -10,8 +10,8 @@ use borrow.Author.Tests.{eqb-true, eqb-false, ne-eqb}
 use Rattle.numbers.specs.Laws.{cases}
 use Rattle.damper.specs.declared.Drive.{Drive}
 use Rattle.damper.specs.Record.{freshDrive}
-use Rattle.damper.specs.Carry.{Step, outcomes, driveAfter}
-use Rattle.hall.specs.Hall.{Call, callRefusal, Turn, turnsOf, at, rowWith, turned, rowAfter, turnsIn, hallAfter, hallTurned, sharedOut, ownOf, share, own}
+use Rattle.damper.specs.Carry.{Step, outcomes, driveAfter, answersIn}
+use Rattle.hall.specs.Hall.{Call, callRefusal, Turn, turnsOf, at, rowWith, turned, rowAfter, answersAfter, turnsIn, hallAfter, hallTurned, sharedOut, ownOf, share, own}
 use Rattle.hall.specs.Laws.{row-append, turned-append, row-length}
 
 -- a call that is refused itself has no turns
@@ -25,11 +25,16 @@ unfolding turnsIn
 refused-share n c cs i r = rw (refused-turns n c r)
 
 module _ (step : Step) where
-  -- and there "nothing is touched"
+  -- and there "nothing is touched": neither the drives nor the answer row
   pub refused-row : (row : List Drive) (c : Call) (cs : List Call) → (callRefusal (length row) c ≡ 0 → ⊥)
       → hallAfter step row (c ∷ cs) ≡ hallAfter step row cs
   unfolding hallAfter rowAfter
   refused-row row c cs r = rw (refused-turns (length row) c r)
+
+  pub refused-answers : (row : List Drive) (c : Call) (answers : List ℕ) → (callRefusal (length row) c ≡ 0 → ⊥)
+      → answersAfter step row c answers ≡ answers
+  unfolding answersAfter turned answersIn
+  refused-answers row c answers r = rw (refused-turns (length row) c r)
 
   -- a list of calls does what the turns of them all do
   hall-row : (row : List Drive) (cs : List Call) → hallAfter step row cs ≡ rowAfter step row (turnsIn (length row) cs)
@@ -72,10 +77,6 @@ module _ (step : Step) where
       cases (eqb (t .place) i)
       (λ q. rw (q, rest, here row t i h (eqb-true _ i q), eqb-true _ i q))
       (λ q. rw (q, rest, elsewhere row t i (eqb-false _ i q)))
-
-  -- the row keeps its length
-  pub hall-length : (row : List Drive) (cs : List Call) → length (hallAfter step row cs) ≡ length row
-  hall-length row cs = ap length (hall-row row cs) ∙ row-length step row (turnsIn (length row) cs)
 
   -- The drive at a place is the one that its share leaves from the drive that stood there.
   pub share-drive : (row : List Drive) (cs : List Call) (i : ℕ) → i < length row

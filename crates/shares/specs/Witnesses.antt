@@ -17,14 +17,14 @@ use Rattle.damper.specs.Step.{outcome, stepOf}
 use Rattle.damper.specs.Carry.{Step, answersIn}
 use Rattle.damper.specs.Closed as Closed
 use Rattle.hall.specs.Hall as H
-use Rattle.hall.specs.Hall.{Call, give, unknown, callRefusal, turnsOf, at, turned, rowAfter, answersAfter, turnsIn, hallAfter, hallTurned, sharedOut, ownOf, share, own}
+use Rattle.hall.specs.Hall.{Call, give, badNumber, callRefusal, turnsOf, at, turned, rowAfter, answersAfter, turnsIn, hallAfter, hallTurned, sharedOut, ownOf, share, own}
 use Rattle.history.specs.Log.{entry}
 use Rattle.history.specs.Claim.{reportsFrom}
 use Rattle.shares.specs.HostLog.{Lent, hostLog}
 
 -- `unfolding computation` opens drive and hall, so that a list of calls computes
 unfoldable computation : Unit {0}
-unfolding Closed.computation readOf answersIn unknown callRefusal turnsOf turned rowAfter answersAfter turnsIn hallAfter hallTurned sharedOut ownOf reportsFrom hostLog
+unfolding Closed.computation readOf answersIn badNumber callRefusal turnsOf turned rowAfter answersAfter turnsIn hallAfter hallTurned sharedOut ownOf reportsFrom hostLog
 computation = tt
 
 -- the event records, as bytes
@@ -139,6 +139,14 @@ pub log : reportsFrom 0 (own stepOf hall 0 calls) ≡ entry 5 5 0 ∷ entry 6 10
 unfolding computation
 log = refl
 
+-- a drive that no call names has no share, and keeps its record
+abbrev elsewhere : List Call
+elsewhere = give (0 ∷ 1 ∷ []) (setpoint 7) 2 ∷ []
+
+pub unnamed : (share 3 2 elsewhere ≡ []) × (at (hallAfter stepOf hall elsewhere) 2 ≡ opened)
+unfolding computation
+unnamed = (refl, refl)
+
 -- Of a drive named twice the second giving starts from the drive that the first left. A calibration leaves the same drive after two
 -- givings as after one, so that a step which counts has to show it.
 abbrev calibrating : List ℕ → List Call
@@ -161,8 +169,8 @@ twice = (refl, refl)
 abbrev lent : List Lent
 lent = map (λ c. record { call = c; row = replicate (roomOf c) (report 7 1) }) calls
 
-pub noted : (hostLog hall 0 lent ≡ sent 5 0 ∷ sent 10 0 ∷ [])
+pub hostLogs : (hostLog hall 0 lent ≡ sent 5 0 ∷ sent 10 0 ∷ [])
     × (hostLog hall 1 lent ≡ [])
     × (hostLog hall 2 lent ≡ sent 72 4 ∷ sent 0 0 ∷ [])
 unfolding computation
-noted = (refl, refl, refl)
+hostLogs = (refl, refl, refl)

@@ -12,7 +12,7 @@ returns c =
       c .before .pick82 .ensures,
       c .before .before .pick8 .ensures,
       judged .is-tick .ensures,
-      judged .before .unknown .ensures,
+      judged .before .bad-number .ensures,
       judged .before .before .bad-row .ensures,
     )
 

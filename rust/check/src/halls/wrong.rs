@@ -2,7 +2,8 @@
 //! one. Each is `hall` with a change, in `edits/halls.rs`.
 //!
 //! A hall that gives a drive listed twice its second event as the drive was at entry is not among them: of
-//! the events other than a tick, none leaves or answers anything else the second time.
+//! the events other than a tick, none leaves or answers anything else the second time, as a test of
+//! `tests/hall.rs` sees.
 
 use super::{first_failure, Failed};
 use crate::check::Breach;
