@@ -1,12 +1,16 @@
-"""What the walks share: the context of a proof by name, and the parts of a proof file that are the same in each.
+"""Writes walks: proofs of functions that work on a lent row of drives.
 
-The prover does not cover references to structs by itself, so a function with a `&mut [Drive]` is walked by hand:
-its proof follows the function's MIR step by step in a context, a list of what is owned, and names each part of it
-by its position. Here the parts have names, and the positions are printed. A local variable of the MIR is `_3`, and
-`d3` what frees it.
+The prover does not cover references to structs by itself, so such a function is walked: its proof follows the
+function's MIR step by step in a context, a list of what is owned, and names each part of it by its position. Here the
+parts have names, and the positions are printed. A local of the MIR is `_3`, and `d3` what frees it.
+
+A `Walk` holds what one function is passed and which functions it calls, and writes the file around its steps: one turn
+of the loop and the way out behind it, and the way to the loop. The function has one loop of `n` turns, of which `k` are
+taken, and returns a number `m`, 0 or a refusal.
 """
 
 import re
+from dataclasses import dataclass
 
 SUBSCRIPTS = "₀₁₂₃₄₅₆₇₈₉"
 
@@ -17,6 +21,22 @@ def sub(n):
 
 def listed(items):
     return " ∷ ".join([*items, "[]"])
+
+
+def nested(items):
+    """A tuple as the toolchain has it: the pairs end in tt."""
+    text = "tt"
+    for item in reversed(list(items)):
+        text = f"({item}, {text})"
+    return text
+
+
+def locations(count):
+    return " ".join(f"l{sub(i)}" for i in range(count))
+
+
+def kebab(name):
+    return name.replace("_", "-")
 
 
 class Context:
@@ -67,8 +87,8 @@ class Context:
         self.top(0, name)
         return f"{text} $ "
 
-    def nothing(self):
-        return self.push("t", "nothing !")
+    def nothing(self, name="nothing"):
+        return self.push(name, "nothing !")
 
     def look(self, name):
         return f"(load ! (from ! (stop !)) (look ! {self.at(name)} refl))"
@@ -85,8 +105,8 @@ class Context:
     def rewrite(self, name, family, path):
         return f"rewrite ! {self.at(name)} {family} {path} refl $ "
 
-    def forget(self, *locals_):
-        return "".join(f"forget ! {self.at(f'_{j}')} refl $ " for j in locals_)
+    def forget(self, *places):
+        return "".join(f"forget ! {self.at(f'_{j}')} refl $ " for j in places)
 
     def free(self, count):
         text = ""
@@ -96,19 +116,8 @@ class Context:
         return text + "free0 ! $ "
 
 
-def local_parts(count):
-    return [part for k in range(count - 1, -1, -1) for part in (f"_{k}", f"d{k}")]
-
-
-def arguments(*loads):
-    text = "(no-more !)"
-    for load in reversed(loads):
-        text = f"(and-then ! {load} {text})"
-    return text
-
-
 class Steps:
-    """Lines of steps, each with the parentheses that it leaves open."""
+    """Lines of steps; `close` ends the parentheses that they left open."""
 
     def __init__(self, indent):
         self.indent = indent
@@ -127,52 +136,492 @@ class Steps:
         return "\n".join(self.lines) + "\n"
 
 
-LOGIC = "{M : Type 1} (𝓤 : URA M) (H : Heap 𝓤) (A : Atoms 𝓤)"
-MACHINE = "(mem : Memory → SProp 𝓤) (run : Routine → Fun 𝓤)"
-DRIVE = "owned ! R (Is R) ((LL.makes T.the-type T′.the-plain) 𝓤 H A)"
-USIZE = "owned ! usize (Is usize) (uint-makes 𝓤 H A W w64)"
-U8 = "owned ! u8 (Is u8) (uint-makes 𝓤 H A W w8)"
-ROW = "(λ (l : List Drive). ‵ (row R fullShare l b o))"
+@dataclass
+class Number:
+    """A type of numbers: its name in the toolchain, the width of its values, and its bytes."""
+
+    name: str
+    width: str
+    size: int
+
+    mir = property(lambda self: f"tyInt {self.width}")
+    vals = property(lambda self: f"(uint-vals {self.width})")
+    tells = property(lambda self: f"(uint-tells {self.width})")
+
+    def value(self, term):
+        return f"vint {self.width} {term}"
+
+    def made(self, term, fits):
+        return f"owned ! {self.name} (Is {self.name}) (uint-makes 𝓤 H A W {self.width}) {term} _ (refl, {fits})"
+
+    def typed(self, term, given):
+        return f"(uint-lawful 𝓤 H A W {self.width} .typed {term} _ {given} .0)"
 
 
-def locals_at(types, values):
-    """Each local, the last first: its value, or room for one."""
-    parts = []
-    for i in range(len(types) - 1, -1, -1):
-        ty = types[i] if " " not in types[i] else f"({types[i]})"
-        parts.append(f"‵ (fat fullShare {ty} l{sub(i)} 0 {values[i]})" if i in values else f"‵ (froom {ty} l{sub(i)} 0)")
-        parts.append(f"‵ (fdies {ty} l{sub(i)})")
-    return listed(parts)
+U8 = Number("u8", "w8", 1)
+U32 = Number("u32", "w32", 4)
+USIZE = Number("usize", "w64", 8)
 
 
-def environment(types):
-    return listed(f"({ty}, l{sub(i)})" for i, ty in enumerate(types))
+class Struct:
+    """A struct of numbers and structs: the name of its toolchain type, and the modules of that and of its laws."""
+
+    def __init__(self, name, module, laws):
+        self.name, self.module, self.laws = name, module, laws
+        self.mir = f"{laws}.mir"
+        self.vals = f"(LL.vals {module}.the-type {laws}.the-laws)"
+        self.tells = f"(LL.tells {module}.the-type {laws}.the-laws)"
+
+    def typed(self, term, given):
+        return f"(LL.lawful {self.module}.the-type {self.laws}.the-laws 𝓤 H A W .typed {term} _ {given} .0)"
+
+    def made(self, term, given):
+        return f"owned ! {self.name} (Is {self.name}) ((LL.makes {self.module}.the-type {self.laws}.the-plain) 𝓤 H A) {term} _ {given}"
 
 
-def locations(count):
-    return " ".join(f"l{sub(i)}" for i in range(count))
+DRIVE = Struct("R", "T", "T′")
 
 
-def enter(steps, owned, values, count):
-    steps(f"qed W {owned} ∵ enter ! (𝓣 .C) (𝓣 .Λ) code.function {values} _ $")
-    steps("".join(f"alloc1 ! (λ l{sub(i)}. " for i in range(count)), "alloc0 ! $ params1 ! $")
+@dataclass
+class Slice:
+    """A parameter: a lent row, to be changed or only read. `list` names what it holds at entry, `out` at exit."""
+
+    element: object
+    list: str
+    out: str = None
+
+    @property
+    def holds(self):
+        return "Drive" if self.element is DRIVE else "ℕ"
+
+    def kind(self, at, lifetime):
+        return f"{'MutSlice' if self.out else 'ShrSlice'} (named {at}) {lifetime} {self.element.name}"
 
 
-def kebab(name):
-    return name.replace("_", "-")
+@dataclass
+class Cited:
+    """A function that the walk calls. `args` are parameters (their place), types of numbers, or DRIVE; `binds` names what
+    the fact depends on; `fact` says what the contract ensures of the result `r`; `asks` what it requires, if anything."""
+
+    name: str
+    home: str
+    function: str
+    args: list
+    terms: list
+    result: object
+    of: str
+    fact: str
+    binds: str = ""
+    asks: str = None
 
 
-def cite(crate, cited, own):
-    """The `use` lines of the functions cited and of the function itself."""
-    text = ""
-    for home, function in cited:
-        module = f"Rattle.{home}.proofs" if home == crate else f"Rattle.{home}.proofs"
-        name = kebab(function)
-        text += f"use {module}.{function} as {name}\nuse {module}.{function}.Symbol as {name}-def\n"
-        text += f"use {module}.{function}.Symbol.{{name as #{name}}}\nuse {module}.{function}.Met as {name}-thm\n"
-    module = f"Rattle.{crate}.proofs.{own}"
-    text += f"use {module}.Key.{{name as #own}}\nuse {module} as f\nuse {module}.Statement as stated\n"
-    return text + f"use {module}.Code as code\nuse {module}.Code.Mir as body\n"
+class Walk:
+    def __init__(self, crate, function, title, slices, types, cited, uses):
+        self.crate, self.function, self.title = crate, function, title
+        self.slices, self.types, self.cited, self.uses = slices, types, {c.name: c for c in cited}, uses
+        self.locals = [part for k in range(len(types) - 1, -1, -1) for part in (f"_{k}", f"d{k}")]
+        self.shared = [j for j, s in enumerate(slices) if not s.out]
+        self.lent = [j for j, s in enumerate(slices) if s.out]
+
+    # What the context holds at each turn: the rows that are changed, their borrows, the slices that are read, the locals.
+    def at_turn(self):
+        parts = [f"row{j}" for j in self.lent]
+        for j in self.lent:
+            parts += [f"open{j}", f"seen{j}", f"held{j}"]
+        for j in self.shared:
+            parts += [f"life{j}", f"own{j}"]
+        return parts + self.locals
+
+    def family(self, j):
+        s = self.slices[j]
+        return f"(λ (l : List {s.holds}). ‵ (row {s.element.name} fullShare l b{sub(j)} o{sub(j)}))"
+
+    def call(self, o, c, name, at, loads, target, value, given, fact, bound="", met=""):
+        """A call of a cited function, and its result `given`, in the Val `value`, stored in the local `target`; its fact
+        is then `fact`. `at` are the arguments' terms with what makes a number fit, `loads` the locals that hold them; a drive
+        is taken from the context. `bound` are what the fact depends on, `met` proves what the contract requires."""
+        f = self.cited[name]
+        tokens = [j for j in f.args if isinstance(j, int)]
+        for j in tokens:
+            e = self.slices[j].element.name
+            o(
+                c.move(f"own{j}"),
+                f"use1 W (‵ Own{sub(j)} ⊛ ‵ Own{sub(j)}) (shr-slice-copy 𝓤 H A W (named {j}) κ{sub(j)} {e} .twice (x{sub(j)} {self.slices[j].list}) (s{sub(j)} ∷ [])) $ ",
+                c.split(f"own{j}", f"copy{j}"),
+            )
+        text = c.nothing("args")
+        for kind, (term, fits) in reversed(list(zip(f.args, at))):
+            if isinstance(kind, int):
+                text += c.move(f"copy{kind}", "args")
+            elif kind is DRIVE:
+                text += c.move("drive", "args")
+            else:
+                text += c.push("number", kind.made(term, fits))
+            text += c.fjoin("args")
+        text += c.nothing("tokens")
+        for j in reversed(tokens):
+            text += c.move(f"life{j}", "tokens") + c.join("tokens")
+        o(text, c.move("tokens", "args"))
+        c.top(2, "pre")
+        ghost = f"(to-{kebab(f.function)}{bound})" if bound else f"to-{kebab(f.function)}"
+        asked = f"(asked-{kebab(f.function)}{bound}{met})" if bound else f"asked-{kebab(f.function)}"
+        o(f"use2 W (raw ({name} 𝓤 H A mem run .pre {ghost})) {asked} $")
+        arguments = "(no-more !)"
+        for load in reversed(loads):
+            arguments = f"(and-then ! {c.look(f'_{load}')} {arguments})"
+        o(f"calls-at ! (fmOf 𝓤 H (W .laws) 𝓣) ({name} 𝓤 H A mem run) known-{kebab(f.function)} {ghost} {arguments} (λ {value}.")
+        own = f.result.name if isinstance(f.result, Number) else f"{f.result.module}.the-row"
+        lives = " ⊛ ".join([*(f"‵ (flft κ{sub(j)} q{sub(j)})" for j in tokens), "‵ ftrue"])
+        o(
+            f"use1 W (later (some (λ (r : {f.of}). (({lives}) ⊛ ‵ ({own} .own r ({value} ∷ []))) ⊛ raw (ensured 𝓤 H A {kebab(f.function)}.ended "
+            f"({kebab(f.function)}.clauses 𝓤 H A mem run) {self.lifetimes(tokens)} {nested(t for t, _ in at)} tt r)))) (id⊢ 𝓤 _) $ await ! tt $ pick ! (λ {given}."
+        )
+        c.top(1, "result", "ensured")
+        says = f"Said-{kebab(f.function)}{bound} {given}"
+        o("split ! $ ", c.move("ensured"), f"use1 W (raw (fact 𝓤 ({says}))) (told-{kebab(f.function)}{bound} {given}) $ heard ! ({says}) (λ {fact}.")
+        c.top(1)
+        o(c.split("tokens", "own"), c.move("own"), f"peeks ! {own} (Is {own}) (shows 𝓤 H A {own}) {given} ({value} ∷ []) (λ is-{given}.")
+        tells = f"(is-{given} .0)" if isinstance(f.result, Number) else f"({f.result.tells[1:-1]} {given} _ is-{given})"
+        ty = f"({f.result.mir})" if isinstance(f.result, Number) else f.result.mir
+        o(
+            f"land ! {c.init(f'_{target}', f.result.typed(given, f'is-{given}'))} $ ",
+            c.rewrite(f"_{target}", f"(λ (u : Val). ‵ (fat fullShare {ty} l{sub(target)} 0 u))", f"(ap only {tells})"),
+            c.drop(),
+        )
+        text = ""
+        for j in tokens:
+            text += c.move("tokens") + c.split(f"life{j}", "tokens")
+        o(text + c.move("tokens"), c.drop())
+
+    def place(self, o, c, j, index, term, pointer, fits, product=None, again=False):
+        """The address of an element: the local `index` holds its number `term`, `product` the offset if an element has
+        more than a byte."""
+        s = self.slices[j]
+        size = "size" if s.element is DRIVE else s.element.size
+        law = f"(sym (place-is {size} o{sub(j)} {term}))"
+        offset = index
+        if size == 1:
+            law = f"(sym (place-byte o{sub(j)} {term}))"
+        else:
+            put = c.store if again else c.init
+            o("assigns ! (bin ! ", c.look(f"_{index}"), f" (lit ! tt) (record {{ fits = {fits} }})) ", put(f"_{product}", f"(tt, record {{ fits = {fits} }})"), " $")
+            offset = product
+        o(
+            f"assigns ! (bin ! {c.field(f'_{j + 1}', 0)} {c.look(f'_{offset}')} tt) {c.init(f'_{pointer}', '(tt, tt)')} $ ",
+            c.rewrite(f"_{pointer}", f"(λ (p : ℕ). ‵ (fat fullShare tyPtr l{sub(pointer)} 0 (vptr b{sub(j)} p)))", law),
+        )
+
+    def take_out(self, o, c, j, row, index, default, within, known):
+        s = self.slices[j]
+        o(
+            c.move(f"row{j}"),
+            f"elem-out ! {s.element.name} (Is {s.element.name}) (shows 𝓤 H A {s.element.name}) {s.element.vals} {s.element.tells} "
+            f"fullShare {row} {index} {default} b{sub(j)} o{sub(j)} {within} (λ {known}.",
+        )
+        c.top(1, "cell", "drive" if s.element is DRIVE else "old", "others")
+
+    def put_back(self, o, c, j, row, index, term, vals, made, within):
+        s = self.slices[j]
+        o(c.push("new", made), c.move("cell", "new", "others"), f"elem-put ! {s.element.name} fullShare {row} {index} {term} {vals} b{sub(j)} o{sub(j)} {within} $")
+        c.top(3, f"row{j}")
+
+    def lifetimes(self, places):
+        return nested(f"κ{sub(j)}" for j in places)
+
+    def ends(self):
+        parts = []
+        for j, s in enumerate(self.slices):
+            parts += [f"seen{j}", f"bor{j}", f"life{j}"] if s.out else [f"life{j}", f"own{j}"]
+        return parts
+
+    def leave(self, o, c, result, used, ends):
+        """The way out behind the loop: the borrows are closed, the result is returned, the locals are freed."""
+        for j in self.lent:
+            s = self.slices[j]
+            o(
+                c.move(f"row{j}", f"open{j}", f"seen{j}", f"held{j}"),
+                f"closes-slice ! tt {s.element.name} {s.list} {s.out} {ends[j]} b{sub(j)} o{sub(j)} $ ",
+            )
+            c.top(4, f"seen{j}", f"bor{j}", f"life{j}")
+        o(f"returns ! (look ! {c.at('_0')} refl) $ ", c.forget(*used), c.free(len(self.types)))
+        o(c.keep(self.ends()), f"by ! (exits {result})")
+
+    def open(self, o, c):
+        """The way to the loop, behind its calls: the borrows are opened."""
+        for j in self.lent:
+            s = self.slices[j]
+            o(
+                c.move(f"own{j}"), c.fsplit("at", "own"), c.drop(), c.fsplit("seen", "bor"), c.move("seen", "bor", f"life{j}"),
+                f"opens-slice ! tt {s.element.name} {s.list} b{sub(j)} o{sub(j)} $",
+            )
+            c.top(3, f"row{j}", f"open{j}", f"seen{j}", f"held{j}")
+
+    def enter(self):
+        """The start of the walk: the locals, the parameters, and what these own and the tokens apart."""
+        o, c, count = Steps(8), Context(self.locals + ["tokens", "owns"]), len(self.types)
+        kinds = listed(s.kind(j, f"κ{sub(j)}") for j, s in enumerate(self.slices))
+        lives = " ⊛ ".join([*(f"‵ (flft κ{sub(j)} q{sub(j)})" for j in range(len(self.slices))), "‵ ftrue"])
+        values = listed(f"s{sub(j)}" for j in range(len(self.slices)))
+        o(f"qed W (({lives}) ∷ ‵ (owns ({kinds}) a vals) ∷ []) ∵ enter ! (𝓣 .C) (𝓣 .Λ) code.function ({values}) _ $")
+        o("".join(f"alloc1 ! (λ l{sub(i)}. " for i in range(count)), "alloc0 ! $ params1 ! $")
+        for j in range(len(self.slices)):
+            o(f"pass1 ! (init ! {c.at(f'_{j + 1}')} refl (tt, (tt, (record {{ fits = room{sub(j)} .0 }}, tt)))) $")
+        o("pass0 ! $")
+        text = ""
+        for j in range(len(self.slices)):
+            text += c.move("owns") + c.fsplit(f"own{j}", "owns")
+        for j in range(len(self.slices)):
+            text += c.move("tokens") + c.split(f"life{j}", "tokens")
+        o(text, c.move("tokens", "owns"), c.drop(), c.drop())
+        return o, c
+
+    def exits(self):
+        """What stands at the exit, put together as the contract asks."""
+        o, c = Steps(6), Context(self.ends())
+        text = c.nothing("tokens")
+        for j in range(len(self.slices) - 1, -1, -1):
+            text += c.move(f"life{j}", "tokens") + c.join("tokens")
+        o(text, "frame ! $")
+        c.top(1)
+        text = c.nothing("params")
+        for j in range(len(self.slices) - 1, -1, -1):
+            s = self.slices[j]
+            if s.out:
+                text += c.move(f"seen{j}", f"bor{j}") + c.fjoin("held")
+                at = f"pureI ! (at-slice {s.element.name} (x{sub(j)} {s.out}) (s{sub(j)} ∷ [])) (tt, (tt, tt))"
+                size = f"(ap (λ (m : ℕ). sliceVal (b{sub(j)}, o{sub(j)}) m ∷ []) (sym len{sub(j)}), subst (Room {s.element.name}) (sym len{sub(j)}) room{sub(j)})"
+                text += c.push("at", f"{at} {size}") + c.fjoin(f"own{j}")
+            text += c.move(f"own{j}", "params") + c.fjoin("params")
+            o(text)
+            text = ""
+        o(c.push("result", U8.made("m", "fits")), c.move("params", "result"), "done !")
+        return o.text()
+
+    def locals_at(self, values):
+        """Each local, the last first: its value, or room for one."""
+        parts = []
+        for i in range(len(self.types) - 1, -1, -1):
+            ty = self.types[i] if " " not in self.types[i] else f"({self.types[i]})"
+            parts.append(f"‵ (fat fullShare {ty} l{sub(i)} 0 {values[i]})" if i in values else f"‵ (froom {ty} l{sub(i)} 0)")
+            parts.append(f"‵ (fdies {ty} l{sub(i)})")
+        return listed(parts)
+
+    def contracts(self):
+        """The contracts cited, and what each function is passed and ensures."""
+        contracts, passed = "", ""
+        for f in self.cited.values():
+            n = kebab(f.function)
+            contracts += f"  abbrev {f.name} : Contract 𝓤\n  {f.name} = tripleOf 𝓤 H A {n}.signature ({n}.spec 𝓤 H A mem run)\n\n"
+            tokens = [j for j in f.args if isinstance(j, int)]
+            values, kinds = [], []
+            for kind, term in zip(f.args, f.terms):
+                if isinstance(kind, int):
+                    values.append(f"s{sub(kind)} ∷ []")
+                    kinds.append(f"ShrSlice (named {tokens.index(kind)}) κ{sub(kind)} {self.slices[kind].element.name}")
+                elif kind is DRIVE:
+                    values.append(f"{DRIVE.vals[1:-1]} {term}")
+                    kinds.append("R")
+                else:
+                    values.append(f"{kind.value(term)} ∷ []")
+                    kinds.append(kind.name)
+            lives, shares = self.lifetimes(tokens), nested(f"q{sub(j)}" for j in tokens)
+            args, vals = nested(f.terms), nested(values)
+            owned = " ⊛ ".join([*(f"‵ (flft κ{sub(j)} q{sub(j)})" for j in tokens), "‵ ftrue"])
+            words = re.findall(r"\((\S+) : ", f.binds)
+            names = "".join(f" {word}" for word in words)
+            arrow = f"{f.binds} → " if f.binds else ""
+            ghost = f"(to-{n}{names})" if names else f"to-{n}"
+            asks, how = (f"{f.asks} → ", ("asks", "says ! asks")) if f.asks else ("", ("", "join !"))
+            passed += f"""
+  abbrev to-{n} : {arrow}{f.name} 𝓤 H A mem run .Ghost
+  to-{n}{names} = (({lives}, {shares}, tt, {args}, {vals}), tt)
+
+  asked-{n} : {arrow}{asks}ent 𝓤 (onEntry 𝓤 H A {n}.signature {lives} {shares} {args} {vals}) ({f.name} 𝓤 H A mem run .pre {ghost})
+  asked-{n}{names}{' asks' if f.asks else ''} = qed W (({owned}) ∷ ‵ (owns ({listed(kinds)}) {args} {vals}) ∷ []) ∵ {how[1]} $ frame ! $ done !
+
+  abbrev Said-{n} : {arrow}{f.of} → Type 0
+  Said-{n}{names} r = {f.fact}
+
+  told-{n} : {arrow}(r : {f.of}) → ent 𝓤 (ensured 𝓤 H A {n}.ended ({n}.clauses 𝓤 H A mem run) {lives} {args} tt r) (fact 𝓤 (Said-{n}{names} r))
+  told-{n}{names} r = exE 𝓤 _ (λ us. snd∗ 𝓤 (sem 𝓤 H A (lasts {n}.ended {lives} {args} us)) (fact 𝓤 (Said-{n}{names} r)))
+"""
+        return contracts, passed
+
+    def text(self, result, known, lens, after, values, laws, turn, start, exit_body, loop_body):
+        """The file. `result` is the fact of the number returned, `known` what the loop knows, `lens` the laws of the rows'
+        lengths, `after` the definitions of the rows at exit, `values` those of the locals at a turn."""
+        many = range(len(self.slices))
+        contracts, passed = self.contracts()
+        spread = lambda form: " ".join(form.format(sub(j)) for j in many)
+        lists = " ".join(f"({s.list} : List {s.holds})" for s in self.slices)
+        rooms = " ".join(f"(room{sub(j)} : Room {s.element.name} (length {s.list}))" for j, s in enumerate(self.slices))
+        stays, goes, tells = [], [], []
+        for j, s in enumerate(self.slices):
+            row = f"(plain (λ _. {s.element.name}))"
+            path = "(κs" + " .1" * j + " .0)"
+            stays.append(f"stay-slice ({j} ∷ []) tt {row}" if s.out else f"stay-none-slice ({j} ∷ []) tt {row} yes")
+            goes.append(f"goes-slice 𝓤 H A W {len(many)} {j} tt {row}" if s.out else f"goes-none-slice 𝓤 H A W {len(many)} ({j} ∷ []) tt {row} yes")
+            tells.append(f"{'mut' if s.out else 'shr'}-slice-tells (named {j}) {path} {s.element.name}")
+        refs = "".join(
+            f"""
+  abbrev x{sub(j)} : List {s.holds} → RefT (List {s.holds})
+  x{sub(j)} l = record {{ ptr = (b{sub(j)}, o{sub(j)}); name = γ{sub(j)}; now = l }}
+
+  abbrev s{sub(j)} : Val
+  s{sub(j)} = sliceVal (b{sub(j)}, o{sub(j)}) (length {s.list})
+"""
+            for j, s in enumerate(self.slices)
+        )
+        refs += "".join(
+            f"""
+  abbrev Own{sub(j)} : Fml
+  Own{sub(j)} = {self.slices[j].kind(j, f'κ{sub(j)}')} .own (x{sub(j)} {self.slices[j].list}) (s{sub(j)} ∷ [])
+"""
+            for j in self.shared
+        )
+        tuple_types = "Unit {0}"
+        for s in reversed(self.slices):
+            tuple_types = f"RefT (List {s.holds}) × ({tuple_types})"
+        val_types = "Unit {0}"
+        for _ in self.slices:
+            val_types = f"List Val × ({val_types})"
+        ghost = f"(({nested(f'κ{sub(j)}' for j in many)}, {nested(f'q{sub(j)}' for j in many)}, tt, a, vals), tt)"
+        at_exit = nested(s.out if s.out else "tt" for s in self.slices)
+        len_exit = nested(f"len{sub(j)}" if s.out else "tt" for j, s in enumerate(self.slices))
+        held = []
+        for j, s in enumerate(self.slices):
+            if s.out:
+                e = s.element.name
+                held += [f"‵ (fobs γ{sub(j)} (codedHoleys {e} .code (heres {e} {s.out})))", f"‵ (fbor κ{sub(j)} (Held {e} (length {s.out}) b{sub(j)} o{sub(j)} γ{sub(j)}))", f"‵ (flft κ{sub(j)} q{sub(j)})"]
+            else:
+                held += [f"‵ (flft κ{sub(j)} q{sub(j)})", f"‵ Own{sub(j)}"]
+        at_turn = [f"‵ (row {self.slices[j].element.name} fullShare (Row{sub(j)} k) b{sub(j)} o{sub(j)})" for j in self.lent]
+        for j in self.lent:
+            s, e = self.slices[j], self.slices[j].element.name
+            code = f"γ{sub(j)} (codedHoleys {e} .code (heres {e} {s.list}))"
+            at_turn += [f"‵ (fobor κ{sub(j)} q{sub(j)} (Held {e} (length {s.list}) b{sub(j)} o{sub(j)} γ{sub(j)}))", f"‵ (fobs {code})", f"‵ (fauth {code})"]
+        for j in self.shared:
+            at_turn += [f"‵ (flft κ{sub(j)} q{sub(j)})", f"‵ Own{sub(j)}"]
+        types = "".join(
+            f"""
+      abbrev Ty{sub(j)} : Ty
+      Ty{sub(j)} = sliceTy (tyRef (named {j}) {'mut' if s.out else 'imm'} ({'pointee (R .written)' if s.element is DRIVE else s.element.mir}))
+"""
+            for j, s in enumerate(self.slices)
+        )
+        knows = " ".join(f"(known-{kebab(f.function)} : Triple 𝓤 (𝓣 .C #{kebab(f.function)}) ({f.name} 𝓤 H A mem run))" for f in self.cited.values())
+        triples = " → ".join(f"Triple 𝓤 (𝓣 .C #{kebab(f.function)}) ({f.name} 𝓤 H A mem run)" for f in self.cited.values())
+        names = " ".join(f"k{sub(i)}" for i in range(len(self.cited)))
+        met = "\n    ".join(
+            f"(cited 𝓤 H ({f.name} 𝓤 H (𝓖 .A) (𝓜 .mem) (𝓡 .run)) 𝓜 𝓡 code.env #{kebab(f.function)} {kebab(f.function)}-def.routine "
+            f"code.calls-{kebab(f.home)}·{kebab(f.function)} ({kebab(f.function)}-thm.met 𝓤 H 𝓜 𝓖 𝓡))"
+            for f in self.cited.values()
+        )
+        one = lambda form: " ".join(form.format(" .1" * j) for j in many)
+        walk_args = f"{one('(κs{} .0)')} {one('(qs{} .0)')} {' '.join('(a%s .0 .ptr .0) (a%s .0 .ptr .1)' % ((' .1' * j,) * 2) for j in many)} {one('(a{} .0 .name)')} {one('(a{} .0 .now)')} {one('(are{} .0 .0 .1)')}"
+        logic = "{M : Type 1} (𝓤 : URA M) (H : Heap 𝓤) (A : Atoms 𝓤)"
+        machine = "(mem : Memory → SProp 𝓤) (run : Routine → Fun 𝓤)"
+        entry = f"onEntry 𝓤 H A f.signature {nested(f'κ{sub(j)}' for j in many)} {nested(f'q{sub(j)}' for j in many)} a vals"
+        values_in = listed(f"s{sub(j)}" for j in many)
+        pointers = " ".join(f"b{sub(j)} o{sub(j)}" for j in many)
+        body = f"""
+abbrev R : RattleType
+R = T.the-row
+
+-- how many bytes a drive takes
+abbrev size : ℕ
+size = 44
+
+abbrev stayed : Stays (f.ended .signature .params) (f.ended .kept)
+stayed = {nested(stays)}
+
+{AFTER}-- the contracts that the walk cites
+module _ {logic} {machine} where
+{contracts}module _ {logic} (W : Given 𝓤 H A) {machine} ({spread('κ{}')} : Lft) ({spread('q{}')} : Share) ({pointers} : ℕ) ({spread('γ{}')} : GName)
+    {lists} {rooms} where
+{refs.lstrip(chr(10))}
+  abbrev Arg : Type 0
+  Arg = {tuple_types}
+
+  abbrev a : Arg
+  a = {nested(f'x{sub(j)} {s.list}' for j, s in enumerate(self.slices))}
+
+  abbrev vals : {val_types}
+  vals = {nested(f's{sub(j)} ∷ []' for j in many)}
+
+  abbrev Post : Val → SProp 𝓤
+  Post = walkOf 𝓤 H A f.ended stayed (f.clauses 𝓤 H A mem run) .post {ghost}
+
+{after}
+  -- what each function is passed, and what it ensures
+{passed.lstrip(chr(10))}
+  abbrev Ends : List (Item 𝓤)
+  Ends = {listed(held)}
+
+  exits : (m : ℕ) → {result} → m < 2 ^ 8 → {lens[0]}ent 𝓤 (⋆ 𝓤 H A Ends) (Post (vint w8 m))
+  exits m judged fits {lens[1]}=
+      qed W Ends ∵
+      suffices ! _ (ends-at 𝓤 H A f.ended stayed (f.clauses 𝓤 H A mem run) W {ghost} (vint w8 m) m {at_exit} {len_exit}) $ says ! (judged, refl, refl) $
+{exit_body}
+{VARIANT}  module _ (𝓣 : Tables 𝓤 H) {knows} where
+    module _ {known} ({locations(len(self.types))} : ℕ) where
+{types.lstrip(chr(10))}
+      abbrev En : Env 𝓤 H
+      En = {listed(f'({ty}, l{sub(i)})' for i, ty in enumerate(self.types))}
+
+{laws}
+      abbrev At : Upto n → List (Item 𝓤)
+      At k = {listed(at_turn)[:-5]} ∷ {self.locals_at(values)}
+
+      abbrev Turned : Upto n → Out → SProp 𝓤
+      Turned k = afterTurn 𝓤 H (Below 𝓤 H A (Nearer n) At k) (afterBlock 𝓤 H (afterSeq 𝓤 H (Wp 𝓤 H (𝓣 .C) (𝓣 .Λ) En body.{loop_body[1]} (atReturn 𝓤 H En Post)) (atReturn 𝓤 H En Post)))
+
+      abbrev more : Body
+      more = after (after body.turn-1)
+
+      turns-walk : (k : Upto n) → Sq W (At k) (runs (𝓣 .C) (𝓣 .Λ) En body.turn-1 (anyQ (Turned k)))
+      unfolding afterTurn
+      turns-walk k =
+{turn}
+      looped : Sq W (At (0, zero-le)) (runs (𝓣 .C) (𝓣 .Λ) En body.{loop_body[0]} (atRet En Post))
+      looped = first ! $ blocks ! $ loops ! 𝓣 (Nearer n) (Nearer-wf n) At turns-walk (0, zero-le)
+
+    walk : ent 𝓤 ({entry}) (WpFn 𝓤 H (𝓣 .C) (𝓣 .Λ) code.function ({values_in}) Post)
+    walk =
+{start}
+module _ {logic} (W : Given 𝓤 H A) {machine} where
+  walks : (𝓣 : Tables 𝓤 H) → {triples} → Walks 𝓤 H A f.ended stayed (WpFn 𝓤 H (𝓣 .C) (𝓣 .Λ) code.function) (f.clauses 𝓤 H A mem run)
+  walks 𝓣 {names} = walked 𝓤 H A f.ended stayed (f.clauses 𝓤 H A mem run) (WpFn 𝓤 H (𝓣 .C) (𝓣 .Λ) code.function) (λ κs. {nested('slice-vals' for _ in many)}) (λ κs. {nested(tells)})
+      (λ κs qs bounds a g are. via 𝓤 _ (fst∗ 𝓤 _ (emp 𝓤))
+      (walk 𝓤 H A W mem run {walk_args} 𝓣 {names}))
+
+meets : {logic} → Given 𝓤 H A → {machine} (𝓣 : Tables 𝓤 H) → {triples}
+    → Meets 𝓤 H A f.signature (WpFn 𝓤 H (𝓣 .C) (𝓣 .Λ) code.function) (f.spec 𝓤 H A mem run)
+meets 𝓤 H A W mem run 𝓣 {names} =
+    walk-meets 𝓤 H A f.ended stayed W {nested(goes)} (f.clauses 𝓤 H A mem run)
+    (WpFn 𝓤 H (𝓣 .C) (𝓣 .Λ) code.function) (WpFn-mono 𝓤 H (W .laws) 𝓣 code.function) (walks 𝓤 H A W mem run 𝓣 {names})
+
+pub {kebab(self.function)}-spec : {{M : Type 1}} → stated.statement M
+unfolding code.routine tablesOf
+{kebab(self.function)}-spec 𝓤 H 𝓜 𝓖 𝓡 =
+    entered 𝓤 H (tripleOf 𝓤 H (𝓖 .A) f.signature (f.spec 𝓤 H (𝓖 .A) (𝓜 .mem) (𝓡 .run)))
+    (tables 𝓤 H 𝓜 𝓡 code.env .C) (tables 𝓤 H 𝓜 𝓡 code.env .Λ) #own code.function (code.unfolded 𝓤 H 𝓜 𝓡)
+    (meets 𝓤 H (𝓖 .A) (givenOf 𝓤 H 𝓜 𝓖) (𝓜 .mem) (𝓡 .run) (tablesOf 𝓤 H 𝓜 (tables 𝓤 H 𝓜 𝓡 code.env))
+    {met})
+"""
+        return self.title + trimmed(USES + self.uses + self.cites(), body) + body
+
+    def cites(self):
+        """The `use` lines of the functions cited and of the function itself."""
+        text = ""
+        for f in self.cited.values():
+            module = f"Rattle.{f.home}.proofs" if f.home == self.crate else f"Rattle.{f.home}.proofs"
+            name = kebab(f.function)
+            text += f"use {module}.{f.function} as {name}\nuse {module}.{f.function}.Symbol as {name}-def\n"
+            text += f"use {module}.{f.function}.Symbol.{{name as #{name}}}\nuse {module}.{f.function}.Met as {name}-thm\n"
+        module = f"Rattle.{self.crate}.proofs.{self.function}"
+        text += f"use {module}.Key.{{name as #own}}\nuse {module} as f\nuse {module}.Statement as stated\n"
+        return text + f"use {module}.Code as code\nuse {module}.Code.Mir as body\n"
 
 
 def trimmed(uses, body):
@@ -188,47 +637,6 @@ def trimmed(uses, body):
             line = f"{path}.{{{', '.join(used)}}}"
         lines.append(line)
     return "\n".join(lines) + "\n"
-
-
-def contracts(cited):
-    text = f"-- the contracts that the walk cites\nmodule _ {LOGIC} {MACHINE} where\n"
-    for name, function in cited:
-        function = kebab(function)
-        text += f"  abbrev {name} : Contract 𝓤\n  {name} = tripleOf 𝓤 H A {function}.signature ({function}.spec 𝓤 H A mem run)\n\n"
-    return text
-
-
-def ending(own, goes, passed, cited):
-    """From the walk to the function's contract."""
-    values, tells, walk = passed
-    known = " → ".join(f"Triple 𝓤 (𝓣 .C #{kebab(g)}) ({c} 𝓤 H A mem run)" for _, g, c in cited)
-    names = " ".join(f"k{sub(i)}" for i in range(len(cited)))
-    met = "\n    ".join(
-        f"(cited 𝓤 H ({c} 𝓤 H (𝓖 .A) (𝓜 .mem) (𝓡 .run)) 𝓜 𝓡 code.env #{kebab(g)} {kebab(g)}-def.routine "
-        f"code.calls-{kebab(home)}·{kebab(g)} ({kebab(g)}-thm.met 𝓤 H 𝓜 𝓖 𝓡))"
-        for home, g, c in cited
-    )
-    return f"""
-module _ {LOGIC} (W : Given 𝓤 H A) {MACHINE} where
-  walks : (𝓣 : Tables 𝓤 H) → {known} → Walks 𝓤 H A f.ended stayed (WpFn 𝓤 H (𝓣 .C) (𝓣 .Λ) code.function) (f.clauses 𝓤 H A mem run)
-  walks 𝓣 {names} = walked 𝓤 H A f.ended stayed (f.clauses 𝓤 H A mem run) (WpFn 𝓤 H (𝓣 .C) (𝓣 .Λ) code.function) (λ κs. {values}) (λ κs. {tells})
-      (λ κs qs bounds a g are. via 𝓤 _ (fst∗ 𝓤 _ (emp 𝓤))
-      (walk 𝓤 H A W mem run {walk} 𝓣 {names}))
-
-meets : {LOGIC} → Given 𝓤 H A → {MACHINE} (𝓣 : Tables 𝓤 H) → {known}
-    → Meets 𝓤 H A f.signature (WpFn 𝓤 H (𝓣 .C) (𝓣 .Λ) code.function) (f.spec 𝓤 H A mem run)
-meets 𝓤 H A W mem run 𝓣 {names} =
-    walk-meets 𝓤 H A f.ended stayed W {goes} (f.clauses 𝓤 H A mem run)
-    (WpFn 𝓤 H (𝓣 .C) (𝓣 .Λ) code.function) (WpFn-mono 𝓤 H (W .laws) 𝓣 code.function) (walks 𝓤 H A W mem run 𝓣 {names})
-
-pub {kebab(own)}-spec : {{M : Type 1}} → stated.statement M
-unfolding code.routine tablesOf
-{kebab(own)}-spec 𝓤 H 𝓜 𝓖 𝓡 =
-    entered 𝓤 H (tripleOf 𝓤 H (𝓖 .A) f.signature (f.spec 𝓤 H (𝓖 .A) (𝓜 .mem) (𝓡 .run)))
-    (tables 𝓤 H 𝓜 𝓡 code.env .C) (tables 𝓤 H 𝓜 𝓡 code.env .Λ) #own code.function (code.unfolded 𝓤 H 𝓜 𝓡)
-    (meets 𝓤 H (𝓖 .A) (givenOf 𝓤 H 𝓜 𝓖) (𝓜 .mem) (𝓡 .run) (tablesOf 𝓤 H 𝓜 (tables 𝓤 H 𝓜 𝓡 code.env))
-    {met})
-"""
 
 
 USES = """\
