@@ -27,16 +27,7 @@ walk = Walk(
             "(r .drive ≡ stepOf d bs .drive) × (r .number ≡ numberOf (stepOf d bs .answer))", "(d : Drive)",
         ),
     ],
-    """use Rattle.numbers.specs.Numbers.{pick as pick′}
-use Rattle.answer.specs.Answer.{numberOf}
-use Rattle.damper.specs.declared.Drive.{Drive}
-use Rattle.damper.specs.Record.{freshDrive}
-use Rattle.damper.specs.Step.{stepOf}
-use Rattle.damper.proofs.Drive as T
-use Rattle.damper.proofs.Drive.Laws as T′
-use Rattle.hall.specs.Hall.{Call, give, callRefusal, Turn, turnsOf, at, rowAfter, answersAfter}
-use Rattle.hall.specs.Laws.{Turns, give-turns, turns-most, row-length, rowBy, answersBy, row-start, answers-start, row-by-length, answers-by-length, row-turn, answers-turn, row-end, answers-end, answers-end-length}
-use Rattle.hall_event.specs.declared.Given.{Given as Given′}
+    """use Rattle.hall_event.specs.declared.Given.{Given as Given′}
 use Rattle.hall_event.proofs.Given as O
 use Rattle.hall_event.proofs.Given.Laws as O′
 """,

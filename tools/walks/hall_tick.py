@@ -13,7 +13,7 @@ walk = Walk(
 -- functions called only their contracts are used.
 """,
     [Slice(DRIVE, "ys", "zs₀"), Slice(U32, "ws", "zs₁")],
-    # result, row, numbers, refusal, stop, i, t, row.len(), numbers.len(), the loop's test, an offset, three places, a drive
+    # result, row, numbers, refusal, stop, i, t, two lengths, the loop's test, an offset, a place, a drive, two places
     ["tyInt w8", "Ty₀", "Ty₁", "tyInt w8", "tyInt w64", "tyInt w64", "O′.mir", "tyInt w64", "tyInt w64", "tyBool", "tyInt w64", "tyPtr", "T′.mir", "tyPtr", "tyPtr"],
     [
         Cited("Judge", "hall", "tick_refusal", [USIZE, USIZE], ["(length ys)", "(length ws)"], U8, "ℕ", "r ≡ callRefusal (length ys) call′"),
@@ -23,15 +23,7 @@ walk = Walk(
             "(r .drive ≡ stepOf d tickBytes .drive) × (r .number ≡ tickNumber (stepOf d tickBytes .answer))", "(d : Drive)",
         ),
     ],
-    """use Rattle.numbers.specs.Numbers.{pick as pick′}
-use Rattle.damper.specs.declared.Drive.{Drive}
-use Rattle.damper.specs.Record.{freshDrive}
-use Rattle.damper.specs.Step.{stepOf}
-use Rattle.damper.proofs.Drive as T
-use Rattle.damper.proofs.Drive.Laws as T′
-use Rattle.hall.specs.Hall.{Call, tick, callRefusal, Turn, tickBytes, turnsOf, at, rowAfter, tickNumber, answersAfter}
-use Rattle.hall.specs.Laws.{Turns, tick-turns, row-length, rowBy, answersBy, row-start, answers-start, row-by-length, answers-by-length, row-turn, answers-turn, row-end, answers-end, answers-end-length}
-use Rattle.hall_tick.specs.declared.Ticked.{Ticked}
+    """use Rattle.hall_tick.specs.declared.Ticked.{Ticked}
 use Rattle.hall_tick.proofs.Ticked as O
 use Rattle.hall_tick.proofs.Ticked.Laws as O′
 """,

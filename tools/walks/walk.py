@@ -687,6 +687,15 @@ use denote.Triple.Table.{entered, cited}
 use denote.Triple.Walked.{says, Stays, stay-slice, stay-none-slice, walkOf, goes-slice, goes-none-slice, Walks, ends-at, walked, walk-meets}
 use denote.Exit.{yes}
 use denote.Signature.{plain}
+use Rattle.numbers.specs.Numbers.{pick as pick′}
+use Rattle.answer.specs.Answer.{numberOf}
+use Rattle.damper.specs.declared.Drive.{Drive}
+use Rattle.damper.specs.Record.{freshDrive}
+use Rattle.damper.specs.Step.{stepOf}
+use Rattle.damper.proofs.Drive as T
+use Rattle.damper.proofs.Drive.Laws as T′
+use Rattle.hall.specs.Hall.{Call, give, tick, callRefusal, Turn, tickBytes, turnsOf, at, rowAfter, tickNumber, answersAfter}
+use Rattle.hall.specs.Laws.{Turns, give-turns, tick-turns, turns-most, row-length, rowBy, answersBy, row-start, answers-start, row-by-length, answers-by-length, row-turn, answers-turn, row-end, answers-end, answers-end-length}
 """
 
 AFTER = """\
