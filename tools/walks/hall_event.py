@@ -1,6 +1,6 @@
 """Writes crates/hall_event/proofs/damper_hall_event/Proof.antt, the walk of `damper_hall_event`, to standard output."""
 
-from walk import DRIVE, U8, U32, USIZE, Cited, Context, Slice, Steps, Struct, Walk, locations
+from walk import DRIVE, U8, U32, USIZE, Cited, Context, Slice, Steps, Struct, Walk
 
 GIVEN = Struct("O.the-row", "O", "O′")
 ROW, LIST, BYTES, ANSWERS = 0, 1, 2, 3
@@ -36,11 +36,7 @@ use Rattle.hall_event.proofs.Given.Laws as O′
 
 def turn():
     o, c = Steps(10), Context(walk.at_turn())
-    o("assigns ! (bin ! ", c.look("_7"), " ", c.look("_6"), " tt) ", c.init("_12", "(tt, tt)"), " $")
-    o("first ! $ branches ! ", c.look("_12"))
-    before = list(c.names)
-    o("(λ u.")
-    o("let less : k .0 < n = ltb→lt (k .0) n u in")
+    before = walk.test(o, c, 7, 6, 12)
     o("let in-list : k .0 < length xs = omega (arith, less, listed) in")
     o("let k-fits : k .0 < 2 ^ 64 = omega (arith, less, w .few) in")
     o("let next-fits : k .0 + 1 < 2 ^ 64 = omega (arith, less, w .few) in")
@@ -54,52 +50,35 @@ def turn():
     o("-- the drive that it names is taken out and given the event")
     walk.place(o, c, ROW, 8, "i", 14, "at-fits", 13)
     walk.take_out(o, c, ROW, "(Row₀ k)", "i", "freshDrive", "within", "h")
-    o(f"assigns ! (of-opd ! (load ! (from ! (hop ! (look ! {c.at('_14')} refl) (stop !))) (look-raw ! {c.at('cell')} refl))) ", c.init("_15", DRIVE.typed("(old k i)", "h")), " $")
+    walk.load(o, c, 14, 15, "(old k i)", "h")
     walk.call(o, c, "Give", [("(old k i)", None), ("x₂ bs", None)], [15, 3], 9, "v′", "g", "e", " (old k i)")
     o("let parts = LL.owed O.the-type O′.the-laws g _ is-g in")
     o("-- it is put back as the event left it")
     walk.place(o, c, ROW, 8, "i", 16, "at-fits", 13, again=True)
-    o(f"assigns ! (of-opd ! {c.field('_9', 0)}) (from ! (hop ! (look ! {c.at('_16')} refl) (stop !))) (store-raw ! {c.at('cell')} refl {DRIVE.typed('(g .drive)', '(parts .0)')}) $")
-    walk.put_back(o, c, ROW, "(Row₀ k)", "i", "(g .drive)", f"({DRIVE.vals} (g .drive))", DRIVE.made("(g .drive)", "(parts .0)"), "within")
+    walk.save(o, c, 9, "g", 16, "(Row₀ k)", "i", "within")
     o("-- its answer")
-    walk.place(o, c, ANSWERS, 7, "(k .0)", 17, "k-fits")
-    walk.take_out(o, c, ANSWERS, "(Row₃ k)", "(k .0)", "0", "within′", "_")
-    o(f"assigns ! (of-opd ! {c.field('_9', 1)}) (from ! (hop ! (look ! {c.at('_17')} refl) (stop !))) (store ! {c.at('cell')} refl (tt, record {{ fits = parts .1 .0 .1 }})) $")
-    o(c.move("old"), c.drop())
-    walk.put_back(o, c, ANSWERS, "(Row₃ k)", "(k .0)", "(g .number)", f"({U8.value('(g .number)')} ∷ [])", U8.made("(g .number)", "parts .1 .0 .1"), "within′")
-    o("assigns-last ! (bin ! ", c.look("_7"), " (lit ! tt) (record { fits = next-fits })) ", c.store("_7", "(tt, record { fits = next-fits })"), " $")
-    o(c.forget(17, 16, 15, 14, 13, 12, 9, 8), c.keep(walk.at_turn()))
+    walk.place(o, c, ANSWERS, 7, "(k .0)", 17)
+    walk.answer(o, c, ANSWERS, 9, "g", 17, "(Row₃ k)", "within′")
+    walk.count(o, c, 7, (17, 16, 15, 14, 13, 12, 9, 8))
     o(c.rewrite("row0", walk.family(ROW), "(next-row k i g is-entry e less)"), c.rewrite("row3", walk.family(ANSWERS), "(next-answers k i g is-entry e less)"))
     o("again ! (Nearer n) At k (k .0 + 1, add-one-le less) (add-one-dec n (k .0) less)")
     o.close()
-    c.names = before
-    o("(λ over. let all : k .0 ≡ n = le-antisymm (k .1) (nltb→le (k .0) n over) in")
-    o("jumps ! $ exec ! (𝓣 .C) (𝓣 .Λ) En body.t-8 (atRet En Post) $")
-    o("assigns ! (of-opd ! ", c.look("_5"), ") ", c.init("_0", "(tt, record { fits = fits })"), " $")
-    o(c.rewrite("row0", walk.family(ROW), "(row-end stepOf ys call′ cs w (k .0) all)"))
-    o(c.rewrite("row3", walk.family(ANSWERS), "(answers-end stepOf ys call′ cs w (k .0) all)"))
-    walk.leave(o, c, "m judged fits (len′ w)", (12, 11, 10, 7, 6, 5, 4, 3, 2, 1, 0), {ROW: "len₀", ANSWERS: "(len′ w)"})
-    o.close()
+    ends = {ROW: "(row-end stepOf ys call′ cs w (k .0) all)", ANSWERS: "(answers-end stepOf ys call′ cs w (k .0) all)"}
+    walk.leave(o, c, before, "t-8", 5, ends, (12, 11, 10, 7, 6, 5, 4, 3, 2, 1, 0), {ROW: "len₀", ANSWERS: "(len′ w)"})
     return o.text()
 
 
 def start():
     o, c = walk.enter()
-    o("assigns ! (of-opd ! ", c.field("_1", 1), ") ", c.init("_10", "(tt, record { fits = room₀ .0 })"), " $")
-    o("assigns ! (of-opd ! ", c.field("_4", 1), ") ", c.init("_11", "(tt, record { fits = room₃ .0 })"), " $")
-    walk.call(
-        o, c, "Judge", [("(length ys)", "room₀ .0"), ("x₁ xs", None), ("x₂ bs", None), ("(length cs)", "room₃ .0")], [10, 2, 3, 11], 5, "v", "m", "judged",
-    )
-    o("assigns ! (of-opd ! ", c.field("_2", 1), ") ", c.store("_10", "(tt, record { fits = room₁ .0 })"), " $")
+    walk.length(o, c, ROW, 10)
+    walk.length(o, c, ANSWERS, 11)
+    passed = [("(length ys)", "room₀ .0"), ("x₁ xs", None), ("x₂ bs", None), ("(length cs)", "room₃ .0")]
+    walk.call(o, c, "Judge", passed, [10, 2, 3, 11], 5, "v", "m", "judged")
+    walk.length(o, c, LIST, 10, again=True)
     walk.call(o, c, "Count", [("m", "is-m .1"), ("(length xs)", "room₁ .0")], [5, 10], 6, "v′", "n", "counts", " m")
     o("let w : Turned-by n = give-turns (length ys) (length cs) bs xs n (counts ∙ ap (λ (j : ℕ). pick′ (eqb j 0) (length xs) 0) judged) in")
     o("let listed : n ≤ length xs = subst (λ (j : ℕ). j ≤ length xs) (sym counts) (turns-most (eqb m 0) (length xs)) in")
-    o("assigns ! (of-opd ! (lit ! tt)) ", c.init("_7", "(tt, record { fits = lit< tt })"), " $")
-    walk.open(o, c)
-    o(c.keep(walk.at_turn()))
-    o(c.rewrite("row0", walk.family(ROW), "(row-start stepOf ys call′ cs)"), c.rewrite("row3", walk.family(ANSWERS), "(answers-start stepOf ys call′ cs)"))
-    o(f"looped n w listed m judged (is-m .1) {locations(18)}")
-    o.close()
+    walk.open(o, c, 7, {ROW: "(row-start stepOf ys call′ cs)", ANSWERS: "(answers-start stepOf ys call′ cs)"}, "n w listed m judged (is-m .1)")
     return o.text()
 
 
@@ -158,8 +137,7 @@ print(
         laws=LAWS,
         turn=turn(),
         start=start(),
-        exit_body=walk.exits(),
-        loop_body=("t-7", "t-8"),
+        loop=("t-7", "t-8"),
     ),
     end="",
 )

@@ -1,6 +1,6 @@
 """Writes crates/hall_tick/proofs/damper_hall_tick/Proof.antt, the walk of `damper_hall_tick`, to standard output."""
 
-from walk import DRIVE, U8, U32, USIZE, Cited, Context, Slice, Steps, Struct, Walk, locations
+from walk import DRIVE, U8, U32, USIZE, Cited, Context, Slice, Steps, Struct, Walk
 
 TICKED = Struct("O.the-row", "O", "O′")
 ROW, NUMBERS = 0, 1
@@ -32,11 +32,7 @@ use Rattle.hall_tick.proofs.Ticked.Laws as O′
 
 def turn():
     o, c = Steps(10), Context(walk.at_turn())
-    o("assigns ! (bin ! ", c.look("_5"), " ", c.look("_4"), " tt) ", c.init("_9", "(tt, tt)"), " $")
-    o("first ! $ branches ! ", c.look("_9"))
-    before = list(c.names)
-    o("(λ u.")
-    o("let less : k .0 < n = ltb→lt (k .0) n u in")
+    before = walk.test(o, c, 5, 4, 9)
     o("let small : k .0 < 64 = omega (arith, less, w .few) in")
     o("let at-fits : k .0 * size < 2 ^ 64 = omega (arith, small) in")
     o("let at-fits′ : k .0 * 4 < 2 ^ 64 = omega (arith, small) in")
@@ -47,50 +43,34 @@ def turn():
     o("-- the drive at place k is taken out and ticked")
     walk.place(o, c, ROW, 5, "(k .0)", 11, "at-fits", 10)
     walk.take_out(o, c, ROW, "(Row₀ k)", "(k .0)", "freshDrive", "within", "g")
-    o(f"assigns ! (of-opd ! (load ! (from ! (hop ! (look ! {c.at('_11')} refl) (stop !))) (look-raw ! {c.at('cell')} refl))) ", c.init("_12", DRIVE.typed("(old k)", "g")), " $")
+    walk.load(o, c, 11, 12, "(old k)", "g")
     walk.call(o, c, "Tick", [("(old k)", None)], [12], 6, "v", "t", "e", " (old k)")
     o("let parts = LL.owed O.the-type O′.the-laws t _ is-t in")
     o("-- it is put back as the tick left it")
     walk.place(o, c, ROW, 5, "(k .0)", 13, "at-fits", 10, again=True)
-    o(f"assigns ! (of-opd ! {c.field('_6', 0)}) (from ! (hop ! (look ! {c.at('_13')} refl) (stop !))) (store-raw ! {c.at('cell')} refl {DRIVE.typed('(t .drive)', '(parts .0)')}) $")
-    walk.put_back(o, c, ROW, "(Row₀ k)", "(k .0)", "(t .drive)", f"({DRIVE.vals} (t .drive))", DRIVE.made("(t .drive)", "(parts .0)"), "within")
+    walk.save(o, c, 6, "t", 13, "(Row₀ k)", "(k .0)", "within")
     o("-- its number")
     walk.place(o, c, NUMBERS, 5, "(k .0)", 14, "at-fits′", 10, again=True)
-    walk.take_out(o, c, NUMBERS, "(Row₁ k)", "(k .0)", "0", "within′", "_")
-    o(f"assigns ! (of-opd ! {c.field('_6', 1)}) (from ! (hop ! (look ! {c.at('_14')} refl) (stop !))) (store ! {c.at('cell')} refl (tt, record {{ fits = parts .1 .0 .1 }})) $")
-    o(c.move("old"), c.drop())
-    walk.put_back(o, c, NUMBERS, "(Row₁ k)", "(k .0)", "(t .number)", f"({U32.value('(t .number)')} ∷ [])", U32.made("(t .number)", "parts .1 .0 .1"), "within′")
-    o("assigns-last ! (bin ! ", c.look("_5"), " (lit ! tt) (record { fits = next-fits })) ", c.store("_5", "(tt, record { fits = next-fits })"), " $")
-    o(c.forget(14, 13, 12, 11, 10, 9, 6), c.keep(walk.at_turn()))
+    walk.answer(o, c, NUMBERS, 6, "t", 14, "(Row₁ k)", "within′")
+    walk.count(o, c, 5, (14, 13, 12, 11, 10, 9, 6))
     o(c.rewrite("row0", walk.family(ROW), "(ap (set (Row₀ k) (k .0)) (e .0) ∙ row-turn stepOf ys call′ ws w (k .0) less)"))
     o(c.rewrite("row1", walk.family(NUMBERS), "(ap (set (Row₁ k) (k .0)) (e .1) ∙ answers-turn stepOf ys call′ ws w (k .0) less)"))
     o("again ! (Nearer n) At k (k .0 + 1, add-one-le less) (add-one-dec n (k .0) less)")
     o.close()
-    c.names = before
-    o("(λ over. let all : k .0 ≡ n = le-antisymm (k .1) (nltb→le (k .0) n over) in")
-    o("jumps ! $ exec ! (𝓣 .C) (𝓣 .Λ) En body.t-8 (atRet En Post) $")
-    o("assigns ! (of-opd ! ", c.look("_3"), ") ", c.init("_0", "(tt, record { fits = fits })"), " $")
-    o(c.rewrite("row0", walk.family(ROW), "(row-end stepOf ys call′ ws w (k .0) all)"))
-    o(c.rewrite("row1", walk.family(NUMBERS), "(answers-end stepOf ys call′ ws w (k .0) all)"))
-    walk.leave(o, c, "m judged fits (len′ w)", (9, 8, 7, 5, 4, 3, 2, 1, 0), {ROW: "len₀", NUMBERS: "(len′ w)"})
-    o.close()
+    ends = {ROW: "(row-end stepOf ys call′ ws w (k .0) all)", NUMBERS: "(answers-end stepOf ys call′ ws w (k .0) all)"}
+    walk.leave(o, c, before, "t-8", 3, ends, (9, 8, 7, 5, 4, 3, 2, 1, 0), {ROW: "len₀", NUMBERS: "(len′ w)"})
     return o.text()
 
 
 def start():
     o, c = walk.enter()
-    o("assigns ! (of-opd ! ", c.field("_1", 1), ") ", c.init("_7", "(tt, record { fits = room₀ .0 })"), " $")
-    o("assigns ! (of-opd ! ", c.field("_2", 1), ") ", c.init("_8", "(tt, record { fits = room₁ .0 })"), " $")
+    walk.length(o, c, ROW, 7)
+    walk.length(o, c, NUMBERS, 8)
     walk.call(o, c, "Judge", [("(length ys)", "room₀ .0"), ("(length ws)", "room₁ .0")], [7, 8], 3, "v", "m", "judged")
-    o("assigns ! (of-opd ! ", c.field("_1", 1), ") ", c.store("_7", "(tt, record { fits = room₀ .0 })"), " $")
+    walk.length(o, c, ROW, 7, again=True)
     walk.call(o, c, "Count", [("m", "is-m .1"), ("(length ys)", "room₀ .0")], [3, 7], 4, "v′", "n", "counts", " m")
     o("let w : Turned-by n = tick-turns (length ys) (length ws) n (counts ∙ ap (λ (j : ℕ). pick′ (eqb j 0) (length ys) 0) judged) in")
-    o("assigns ! (of-opd ! (lit ! tt)) ", c.init("_5", "(tt, record { fits = lit< tt })"), " $")
-    walk.open(o, c)
-    o(c.keep(walk.at_turn()))
-    o(c.rewrite("row0", walk.family(ROW), "(row-start stepOf ys call′ ws)"), c.rewrite("row1", walk.family(NUMBERS), "(answers-start stepOf ys call′ ws)"))
-    o(f"looped n w m judged (is-m .1) {locations(15)}")
-    o.close()
+    walk.open(o, c, 5, {ROW: "(row-start stepOf ys call′ ws)", NUMBERS: "(answers-start stepOf ys call′ ws)"}, "n w m judged (is-m .1)")
     return o.text()
 
 
@@ -138,8 +118,7 @@ print(
         laws=LAWS,
         turn=turn(),
         start=start(),
-        exit_body=walk.exits(),
-        loop_body=("t-7", "t-8"),
+        loop=("t-7", "t-8"),
     ),
     end="",
 )

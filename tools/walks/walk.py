@@ -293,7 +293,7 @@ class Walk:
             text += c.move("tokens") + c.split(f"life{j}", "tokens")
         o(text + c.move("tokens"), c.drop())
 
-    def place(self, o, c, j, index, term, pointer, fits, product=None, again=False):
+    def place(self, o, c, j, index, term, pointer, fits=None, product=None, again=False):
         """The address of an element: the local `index` holds its number `term`, `product` the offset if an element has
         more than a byte."""
         s = self.slices[j]
@@ -310,6 +310,48 @@ class Walk:
             f"assigns ! (bin ! {c.field(f'_{j + 1}', 0)} {c.look(f'_{offset}')} tt) {c.init(f'_{pointer}', '(tt, tt)')} $ ",
             c.rewrite(f"_{pointer}", f"(λ (p : ℕ). ‵ (fat fullShare tyPtr l{sub(pointer)} 0 (vptr b{sub(j)} p)))", law),
         )
+
+    def test(self, o, c, taken, stop, flag):
+        """The loop's test; gives the context as it is then, for the way out."""
+        o("assigns ! (bin ! ", c.look(f"_{taken}"), " ", c.look(f"_{stop}"), " tt) ", c.init(f"_{flag}", "(tt, tt)"), " $")
+        o("first ! $ branches ! ", c.look(f"_{flag}"))
+        o("(λ u.")
+        o("let less : k .0 < n = ltb→lt (k .0) n u in")
+        return list(c.names)
+
+    def load(self, o, c, pointer, target, term, known):
+        """The drive that was taken out, into a local."""
+        cell = f"(load ! (from ! (hop ! (look ! {c.at(f'_{pointer}')} refl) (stop !))) (look-raw ! {c.at('cell')} refl))"
+        o(f"assigns ! (of-opd ! {cell}) ", c.init(f"_{target}", DRIVE.typed(term, known)), " $")
+
+    def save(self, o, c, source, name, pointer, row, index, within):
+        """The drive of the local `source`, named `name`, into its place."""
+        o(
+            f"assigns ! (of-opd ! {c.field(f'_{source}', 0)}) (from ! (hop ! (look ! {c.at(f'_{pointer}')} refl) (stop !))) "
+            f"(store-raw ! {c.at('cell')} refl {DRIVE.typed(f'({name} .drive)', '(parts .0)')}) $"
+        )
+        self.put_back(o, c, 0, row, index, f"({name} .drive)", f"({DRIVE.vals} ({name} .drive))", DRIVE.made(f"({name} .drive)", "(parts .0)"), within)
+
+    def answer(self, o, c, j, source, name, pointer, row, within):
+        """The number of the local `source`, named `name`, into place k of the row of answers."""
+        e = self.slices[j].element
+        self.take_out(o, c, j, row, "(k .0)", "0", within, "_")
+        o(
+            f"assigns ! (of-opd ! {c.field(f'_{source}', 1)}) (from ! (hop ! (look ! {c.at(f'_{pointer}')} refl) (stop !))) "
+            f"(store ! {c.at('cell')} refl (tt, record {{ fits = parts .1 .0 .1 }})) $"
+        )
+        o(c.move("old"), c.drop())
+        self.put_back(o, c, j, row, "(k .0)", f"({name} .number)", f"({e.value(f'({name} .number)')} ∷ [])", e.made(f"({name} .number)", "parts .1 .0 .1"), within)
+
+    def count(self, o, c, taken, used):
+        """One turn more, and the context as it was at the start of the turn."""
+        o("assigns-last ! (bin ! ", c.look(f"_{taken}"), " (lit ! tt) (record { fits = next-fits })) ", c.store(f"_{taken}", "(tt, record { fits = next-fits })"), " $")
+        o(c.forget(*used), c.keep(self.at_turn()))
+
+    def length(self, o, c, j, target, again=False):
+        """The length of a parameter, into a local."""
+        put = c.store if again else c.init
+        o("assigns ! (of-opd ! ", c.field(f"_{j + 1}", 1), ") ", put(f"_{target}", f"(tt, record {{ fits = room{sub(j)} .0 }})"), " $")
 
     def take_out(self, o, c, j, row, index, default, within, known):
         s = self.slices[j]
@@ -334,8 +376,15 @@ class Walk:
             parts += [f"seen{j}", f"bor{j}", f"life{j}"] if s.out else [f"life{j}", f"own{j}"]
         return parts
 
-    def leave(self, o, c, result, used, ends):
-        """The way out behind the loop: the borrows are closed, the result is returned, the locals are freed."""
+    def leave(self, o, c, names, behind, refusal, paths, used, ends):
+        """The way out behind the loop, on the context `names`: the rows are as `paths` say, the borrows are closed, the
+        refusal is returned, the locals are freed."""
+        c.names = names
+        o("(λ over. let all : k .0 ≡ n = le-antisymm (k .1) (nltb→le (k .0) n over) in")
+        o(f"jumps ! $ exec ! (𝓣 .C) (𝓣 .Λ) En body.{behind} (atRet En Post) $")
+        o("assigns ! (of-opd ! ", c.look(f"_{refusal}"), ") ", c.init("_0", "(tt, record { fits = fits })"), " $")
+        for j, path in paths.items():
+            o(c.rewrite(f"row{j}", self.family(j), path))
         for j in self.lent:
             s = self.slices[j]
             o(
@@ -344,10 +393,12 @@ class Walk:
             )
             c.top(4, f"seen{j}", f"bor{j}", f"life{j}")
         o(f"returns ! (look ! {c.at('_0')} refl) $ ", c.forget(*used), c.free(len(self.types)))
-        o(c.keep(self.ends()), f"by ! (exits {result})")
+        o(c.keep(self.ends()), "by ! (exits m judged fits (len′ w))")
+        o.close()
 
-    def open(self, o, c):
-        """The way to the loop, behind its calls: the borrows are opened."""
+    def open(self, o, c, taken, paths, known):
+        """The way to the loop, behind its calls: no turn is taken yet, the borrows are opened, the rows are as `paths` say."""
+        o("assigns ! (of-opd ! (lit ! tt)) ", c.init(f"_{taken}", "(tt, record { fits = lit< tt })"), " $")
         for j in self.lent:
             s = self.slices[j]
             o(
@@ -355,6 +406,10 @@ class Walk:
                 f"opens-slice ! tt {s.element.name} {s.list} b{sub(j)} o{sub(j)} $",
             )
             c.top(3, f"row{j}", f"open{j}", f"seen{j}", f"held{j}")
+        o(c.keep(self.at_turn()))
+        o("".join(c.rewrite(f"row{j}", self.family(j), path) for j, path in paths.items()))
+        o(f"looped {known} {locations(len(self.types))}")
+        o.close()
 
     def enter(self):
         """The start of the walk: the locals, the parameters, and what these own and the tokens apart."""
@@ -431,13 +486,13 @@ class Walk:
             names = "".join(f" {word}" for word in words)
             arrow = f"{f.binds} → " if f.binds else ""
             ghost = f"(to-{n}{names})" if names else f"to-{n}"
-            asks, how = (f"{f.asks} → ", ("asks", "says ! asks")) if f.asks else ("", ("", "join !"))
+            asks, how = (f"{f.asks} → ", "says ! asks") if f.asks else ("", "join !")
             passed += f"""
   abbrev to-{n} : {arrow}{f.name} 𝓤 H A mem run .Ghost
   to-{n}{names} = (({lives}, {shares}, tt, {args}, {vals}), tt)
 
   asked-{n} : {arrow}{asks}ent 𝓤 (onEntry 𝓤 H A {n}.signature {lives} {shares} {args} {vals}) ({f.name} 𝓤 H A mem run .pre {ghost})
-  asked-{n}{names}{' asks' if f.asks else ''} = qed W (({owned}) ∷ ‵ (owns ({listed(kinds)}) {args} {vals}) ∷ []) ∵ {how[1]} $ frame ! $ done !
+  asked-{n}{names}{' asks' if f.asks else ''} = qed W (({owned}) ∷ ‵ (owns ({listed(kinds)}) {args} {vals}) ∷ []) ∵ {how} $ frame ! $ done !
 
   abbrev Said-{n} : {arrow}{f.of} → Type 0
   Said-{n}{names} r = {f.fact}
@@ -447,9 +502,10 @@ class Walk:
 """
         return contracts, passed
 
-    def text(self, result, known, lens, after, values, laws, turn, start, exit_body, loop_body):
+    def text(self, result, known, lens, after, values, laws, turn, start, loop):
         """The file. `result` is the fact of the number returned, `known` what the loop knows, `lens` the laws of the rows'
-        lengths, `after` the definitions of the rows at exit, `values` those of the locals at a turn."""
+        lengths, `after` the definitions of the rows at exit, `values` those of the locals at a turn, `loop` the statements
+        of the MIR that the loop and what follows it begin with."""
         many = range(len(self.slices))
         contracts, passed = self.contracts()
         spread = lambda form: " ".join(form.format(sub(j)) for j in many)
@@ -562,7 +618,7 @@ module _ {logic} {machine} where
   exits m judged fits {lens[1]}=
       qed W Ends ∵
       suffices ! _ (ends-at 𝓤 H A f.ended stayed (f.clauses 𝓤 H A mem run) W {ghost} (vint w8 m) m {at_exit} {len_exit}) $ says ! (judged, refl, refl) $
-{exit_body}
+{self.exits()}
 {VARIANT}  module _ (𝓣 : Tables 𝓤 H) {knows} where
     module _ {known} ({locations(len(self.types))} : ℕ) where
 {types.lstrip(chr(10))}
@@ -574,7 +630,7 @@ module _ {logic} {machine} where
       At k = {listed(at_turn)[:-5]} ∷ {self.locals_at(values)}
 
       abbrev Turned : Upto n → Out → SProp 𝓤
-      Turned k = afterTurn 𝓤 H (Below 𝓤 H A (Nearer n) At k) (afterBlock 𝓤 H (afterSeq 𝓤 H (Wp 𝓤 H (𝓣 .C) (𝓣 .Λ) En body.{loop_body[1]} (atReturn 𝓤 H En Post)) (atReturn 𝓤 H En Post)))
+      Turned k = afterTurn 𝓤 H (Below 𝓤 H A (Nearer n) At k) (afterBlock 𝓤 H (afterSeq 𝓤 H (Wp 𝓤 H (𝓣 .C) (𝓣 .Λ) En body.{loop[1]} (atReturn 𝓤 H En Post)) (atReturn 𝓤 H En Post)))
 
       abbrev more : Body
       more = after (after body.turn-1)
@@ -583,7 +639,7 @@ module _ {logic} {machine} where
       unfolding afterTurn
       turns-walk k =
 {turn}
-      looped : Sq W (At (0, zero-le)) (runs (𝓣 .C) (𝓣 .Λ) En body.{loop_body[0]} (atRet En Post))
+      looped : Sq W (At (0, zero-le)) (runs (𝓣 .C) (𝓣 .Λ) En body.{loop[0]} (atRet En Post))
       looped = first ! $ blocks ! $ loops ! 𝓣 (Nearer n) (Nearer-wf n) At turns-walk (0, zero-le)
 
     walk : ent 𝓤 ({entry}) (WpFn 𝓤 H (𝓣 .C) (𝓣 .Λ) code.function ({values_in}) Post)
