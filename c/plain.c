@@ -1,4 +1,4 @@
-/* The damper drive of document 01, and the hall of request W-201. */
+/* The damper drive of document 01, with the percents of request W-202, and the hall of request W-201. */
 #include "plain.h"
 
 #include <string.h>
@@ -45,9 +45,16 @@ static uint32_t code_of(uint8_t first, uint8_t second, uint8_t third)
     return (uint32_t)first << 16 | (uint32_t)second << 8 | third;
 }
 
+/* The nearest position, halves down. */
 static uint8_t position_of(unsigned percent)
 {
-    return (uint8_t)(255 * percent / 100);
+    return (uint8_t)((255 * percent + 49) / 100);
+}
+
+/* The nearest percent; there is no half. */
+static uint8_t percent_of(unsigned position)
+{
+    return (uint8_t)((100 * position + 127) / 255);
 }
 
 static bool forced(const damper_drive *d)
@@ -332,7 +339,7 @@ static answer restart(damper_drive *d)
 
 static answer read_position(const damper_drive *d)
 {
-    return (answer){DAMPER_WORD_AT, code_of(d->position, (uint8_t)(100 * d->position / 255), status(d))};
+    return (answer){DAMPER_WORD_AT, code_of(d->position, percent_of(d->position), status(d))};
 }
 
 static answer read_parameter(const damper_drive *d, uint8_t number)

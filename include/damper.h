@@ -51,7 +51,7 @@ extern "C" {
 #define DAMPER_MARK_0 0x5A
 #define DAMPER_MARK_1 0xC3
 
-/* The kinds of event. */
+/* The kinds of event. A percent becomes the nearest position, halves down: 1 % is 3, 50 % is 127. */
 enum damper_kind {
     DAMPER_KIND_TICK = 1,            /* one second passes */
     DAMPER_KIND_SETPOINT = 2,        /* bus setpoint; a: position */
@@ -62,7 +62,7 @@ enum damper_kind {
     DAMPER_KIND_FAULT = 7,           /* a: 1 present, 0 gone */
     DAMPER_KIND_WRITE = 8,           /* parameter write; a: number, value 256 * b + c */
     DAMPER_KIND_RESTART = 9,         /* after power loss: keeps position and parameters, clears all else */
-    DAMPER_KIND_READ_POSITION = 10,  /* position, percent and status; changes nothing */
+    DAMPER_KIND_READ_POSITION = 10,  /* position, nearest percent and status; changes nothing */
     DAMPER_KIND_READ_PARAMETER = 11  /* a: number; changes nothing */
 };
 
@@ -103,10 +103,10 @@ enum damper_place {
 enum damper_number {
     DAMPER_NUMBER_MODE = 111,                  /* DamperMode: which LTE property commands */
     DAMPER_NUMBER_OPEN_CLOSE_DIRECTION = 115,  /* 1 exchanges the ways that the motor turns */
-    DAMPER_NUMBER_ACT_POS_COV = 116,           /* %: the change of position that is reported */
+    DAMPER_NUMBER_ACT_POS_COV = 116,           /* % of 255: the change of position that is reported */
     DAMPER_NUMBER_MIN_REP_TIME = 117,          /* s: from one report to the next, at least */
     DAMPER_NUMBER_BACKUP_MODE = 120,           /* backup at 0: to BackupValue, 1: to the last bus setpoint, or still */
-    DAMPER_NUMBER_BACKUP_VALUE = 121,          /* % */
+    DAMPER_NUMBER_BACKUP_VALUE = 121,          /* %, the nearest position, halves down */
     DAMPER_NUMBER_START_SYNCHRONIZATION = 122, /* the run that a restart starts: 0 none, 1 toward 0, 2 toward 255 */
     DAMPER_NUMBER_TIMEOUT = 201,               /* s: how long a bus setpoint commands */
     DAMPER_NUMBER_REP_PER = 202,               /* s: after which a report goes out without a change */
@@ -401,7 +401,7 @@ static inline uint8_t damper_answer_position(uint8_t word, uint32_t code)
     return word == DAMPER_WORD_REPORT ? (uint8_t)(code >> 24) : 0;
 }
 
-/* AT: the position in %, rounded down. */
+/* AT: the position in %, the nearest. A percent that was written reads back as itself where the damper has arrived. */
 static inline uint8_t damper_answer_percent(uint8_t word, uint32_t code)
 {
     return word == DAMPER_WORD_AT ? (uint8_t)(code >> 8) : 0;

@@ -7,7 +7,7 @@ use Prim.Native.Nat.{ℕ, _/_, _%_}
 use lib.ListN.{drop, replicate, set}
 use Rattle.table.specs.Table.{freshValues}
 use Rattle.event.specs.Event.{event, writeRefusal, writtenTo}
-use Rattle.motion.specs.Motion.{toPercent}
+use Rattle.motion.specs.Motion.{toPosition, toPercent}
 use Rattle.rules.specs.Commands.{commands, noCommands, interlocked}
 use Rattle.rules.specs.Report.{status}
 use Rattle.answer.specs.declared.Answer.{Answer}
@@ -203,8 +203,20 @@ table =
     -- a read is no report
     ∷ row (answers (quick (setpoint 100 ∷ tick ∷ hand 1 100 ∷ position ∷ tick ∷ [])))
     (answers (Done ∷ Report 100 1 1 0 ∷ Done ∷ At 100 39 2 ∷ Report 100 3 0 2 ∷ [])) refl
-    -- position 0, 2, 3, 128, 254, 255 in percent
-    ∷ row (numbers (map toPercent (0 ∷ 2 ∷ 3 ∷ 128 ∷ 254 ∷ 255 ∷ []))) (numbers (0 ∷ 0 ∷ 1 ∷ 50 ∷ 99 ∷ 100 ∷ [])) refl
+    -- ActPosCOV 2, which is 5.1: from the last reported position 5 is no change, though 2 % is position 5; 6 is
+    ∷ row (answers (quick (write 116 2 ∷ setpoint 0 ∷ tick ∷ setpoint 5 ∷ tick ∷ setpoint 6 ∷ tick ∷ [])))
+    (answers (Done ∷ Done ∷ Report 0 1 0 0 ∷ Done ∷ Tick 5 1 1 ∷ Done ∷ Report 6 1 1 0 ∷ [])) refl
+    -- Document 02, W-202:
+    -- halves down: 10, 30, 50, 70 and 90 % are 25.5, 76.5, 127.5, 178.5 and 229.5
+    ∷ row (numbers (map toPosition (10 ∷ 30 ∷ 50 ∷ 70 ∷ 90 ∷ []))) (numbers (25 ∷ 76 ∷ 127 ∷ 178 ∷ 229 ∷ [])) refl
+    -- position 0, 1, 2, 3, 127, 128, 254, 255 in percent
+    ∷ row (numbers (map toPercent (0 ∷ 1 ∷ 2 ∷ 3 ∷ 127 ∷ 128 ∷ 254 ∷ 255 ∷ []))) (numbers (0 ∷ 0 ∷ 1 ∷ 1 ∷ 50 ∷ 50 ∷ 100 ∷ 100 ∷ [])) refl
+    -- 1 % by a normal write, by an override and as BackupValue: the damper goes to 3 and reads back 1 %
+    ∷ row (answers (quick (lte 51 1 0 ∷ tick ∷ position ∷ []))) (answers (Done ∷ Report 3 1 1 0 ∷ At 3 1 0 ∷ [])) refl
+    ∷ row (answers (quick (lte 51 1 1 ∷ tick ∷ position ∷ []))) (answers (Done ∷ Report 3 2 1 34 ∷ At 3 1 34 ∷ [])) refl
+    ∷ row (answers (quick (write 121 1 ∷ tick ∷ position ∷ []))) (answers (Done ∷ Report 3 0 1 32 ∷ At 3 1 32 ∷ [])) refl
+    -- the printed session
+    ∷ row (answers (fromFresh (setpoint 128 ∷ tick ∷ bytes 6 2 0 0 ∷ position ∷ []))) (answers (Done ∷ Tick 5 1 1 ∷ No 6 ∷ At 5 2 0 ∷ [])) refl
     -- Status bits:
     -- bit 5 without a setpoint, none with one
     ∷ row (answers (fromFresh (position ∷ setpoint 0 ∷ position ∷ []))) (answers (At 0 0 32 ∷ Done ∷ At 0 0 0 ∷ [])) refl

@@ -60,8 +60,8 @@ table =
     row (answers (fromFresh (replicate 10 tick))) (answers (replicate 9 (Tick 0 0 0) ++ (Report 0 0 0 32 ∷ [])))
     -- m2 fresh, setpoint 128, tick: position 5.
     ∷ row (answers (fromFresh (bytes 2 128 0 0 ∷ tick ∷ []))) (answers (Done ∷ Tick 5 1 1 ∷ []))
-    -- m3 percent 0, 1, 50, 100: 0, 2, 127, 255.
-    ∷ row (numbers (map toPosition (0 ∷ 1 ∷ 50 ∷ 100 ∷ []))) (numbers (0 ∷ 2 ∷ 127 ∷ 255 ∷ []))
+    -- m3 percent 0, 1, 50, 100: 0, 3, 127, 255 (document 02, W-202).
+    ∷ row (numbers (map toPosition (0 ∷ 1 ∷ 50 ∷ 100 ∷ []))) (numbers (0 ∷ 3 ∷ 127 ∷ 255 ∷ []))
     -- m4 ActPosCOV 1: distance 2 is no change, 3 is.
     ∷ row (tests (changed 1 2 0 ∷ changed 1 3 0 ∷ [])) (tests (false ∷ true ∷ []))
     -- m5 setpoint, Timeout 1860: tick 1860 ruled by 1, tick 1861 by 0.

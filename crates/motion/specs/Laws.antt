@@ -1,5 +1,5 @@
--- Laws of percents, of K, of Low to High and of one move: what the sentences of document 01 mean by the definitions.
-use mathlib.Core.Path.{_≡_, sym, ap, _∙_}
+-- Laws of percents, of K, of Low to High and of one move: what the sentences of documents 01 and 02 mean by the definitions.
+use mathlib.Core.Path.{_≡_, refl, sym, ap, _∙_}
 use Prim.Native.Nat.{ℕ, suc, _+_, _-_, _*_, _/_, _<_, _≤_, min}
 use native.Mathlib.Omega.{arith}
 use native.Mathlib.Nat.{div-le-of-le-mul, div-lt-iff-lt-mul, div-mul-le-self, le-div-iff-mul-le, lt-of-not-le, lt-suc-self, suc-mul}
@@ -9,14 +9,51 @@ use Rattle.numbers.specs.Numbers.{distance}
 use Rattle.numbers.specs.Laws.{cases}
 use Rattle.motion.specs.Motion as M
 
--- "255 × p / 100, rounded down" and "100 × P / 255 rounded down": the greatest number that does not exceed the quotient
-pub to-position-floor : (p : ℕ) → (100 * M.toPosition p ≤ 255 * p) × (255 * p < 100 * (M.toPosition p + 1))
+-- Document 02, W-202: "so 50 % stays 127 and 1 % becomes 3"
+pub percent-named : (M.toPosition 50 ≡ 127) × (M.toPosition 1 ≡ 3)
 unfolding M.toPosition
-to-position-floor p = (omega arith, omega arith)
+percent-named = (refl, refl)
 
-pub to-percent-floor : (p : ℕ) → (255 * M.toPercent p ≤ 100 * p) × (100 * p < 255 * (M.toPercent p + 1))
+-- "0 % is 0, 100 % is 255", and back
+pub percent-ends : (M.toPosition 0 ≡ 0) × (M.toPosition 100 ≡ 255) × (M.toPercent 0 ≡ 0) × (M.toPercent 255 ≡ 100)
+unfolding M.toPosition M.toPercent
+percent-ends = (refl, refl, refl, refl)
+
+-- "the nearest position, halves down": `p` percent are 255 p / 100 of a position. No position is nearer, and none that is as near is lower.
+module _ (p q : ℕ) where
+  pub to-position-nearest : distance (100 * M.toPosition p) (255 * p) ≤ distance (100 * q) (255 * p)
+  unfolding M.toPosition
+  to-position-nearest =
+      cases (ltb q (M.toPosition p))
+      (λ e. let h : q < M.toPosition p = ltb-true _ _ e in omega arith)
+      (λ e. let h : M.toPosition p ≤ q = ltb-false _ _ e in
+      cases (ltb (M.toPosition p) q)
+      (λ f. let k : M.toPosition p < q = ltb-true _ _ f in omega arith)
+      (λ f. let k : q ≤ M.toPosition p = ltb-false _ _ f in omega arith))
+
+  pub to-position-lower : distance (100 * q) (255 * p) ≡ distance (100 * M.toPosition p) (255 * p) → M.toPosition p ≤ q
+  unfolding M.toPosition
+  to-position-lower e = omega arith
+
+-- "the nearest percent": position `p` is 100 p / 255 percent. A percent that is as near is the same: no other is nearer, and there are no
+-- halves.
+pub to-percent-nearest : (p q : ℕ) → distance (255 * q) (100 * p) ≤ distance (255 * M.toPercent p) (100 * p) → q ≡ M.toPercent p
 unfolding M.toPercent
-to-percent-floor p = (omega arith, omega arith)
+to-percent-nearest p q h = omega arith
+
+-- "Every percent from 0 to 100, written and converted back, must be itself": every number is.
+pub percent-round-trip : (p : ℕ) → M.toPercent (M.toPosition p) ≡ p
+unfolding M.toPosition M.toPercent
+percent-round-trip p = omega arith
+
+-- a higher percent is no lower position, and a higher position no lower percent
+pub to-position-monotone : (p q : ℕ) → p ≤ q → M.toPosition p ≤ M.toPosition q
+unfolding M.toPosition
+to-position-monotone p q h = omega arith
+
+pub to-percent-monotone : (p q : ℕ) → p ≤ q → M.toPercent p ≤ M.toPercent q
+unfolding M.toPercent
+to-percent-monotone p q h = omega arith
 
 pub run-ticks-le : (rate : ℕ) → 1 ≤ rate → M.runTicks rate ≤ 255
 unfolding M.runTicks

@@ -1,3 +1,3 @@
--- Document 01: percents and positions, K, Low to High, one move and the motor.
+-- Documents 01 and 02: percents and positions, K, Low to High, one move and the motor.
 pub mod Motion
 pub mod Laws

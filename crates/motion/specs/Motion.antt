@@ -1,15 +1,15 @@
--- Document 01: percents and positions, K, Low to High, one move and the motor.
+-- Documents 01 and 02: percents and positions, K, Low to High, one move and the motor.
 use Prim.Native.Nat.{ℕ, _+_, _-_, _*_, _/_, min, max}
 use lib.Dec.{ltb, eqb}
 use Rattle.numbers.specs.Numbers.{pick, distance}
 
--- "Percent p becomes position 255 × p / 100, rounded down."
+-- Document 02, W-202: "a percent becomes the nearest position, halves down"
 unfoldable pub toPosition : ℕ → ℕ
-toPosition p = 255 * p / 100
+toPosition p = (510 * p + 99) / 200
 
--- "percent 100 × P / 255 rounded down"
+-- "A position becomes the nearest percent."
 unfoldable pub toPercent : ℕ → ℕ
-toPercent p = 100 * p / 255
+toPercent p = (200 * p + 255) / 510
 
 -- "K = 255 divided by Rate, rounded up."
 unfoldable pub runTicks : ℕ → ℕ

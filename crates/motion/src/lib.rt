@@ -8,13 +8,13 @@ pub fn to_position(percent: u8) -> u8
     requires { ⌜ percent ≤ 100 ⌝ }
     ensures { λ r. ⌜ r ≡ toPosition percent ⌝ }
 {
-    (255 * (percent as u16) / 100) as u8
+    ((510 * (percent as u16) + 99) / 200) as u8
 }
 
 pub fn to_percent(position: u8) -> u8
     ensures { λ r. ⌜ r ≡ toPercent position ⌝ }
 {
-    (100 * (position as u16) / 255) as u8
+    ((200 * (position as u16) + 255) / 510) as u8
 }
 
 // K, the ticks of a run.

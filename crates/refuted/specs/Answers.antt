@@ -35,6 +35,7 @@ table =
     -- not seen by the claim
     ∷ row W.readsAlike [] readPosition
     ∷ row W.readsPercentZero (rate 255 ∷ setpoint 255 ∷ tick ∷ []) readPosition
+    ∷ row W.readsPercentDown (setpoint 255 ∷ tick ∷ []) readPosition
     ∷ row W.readsStatusZero [] readPosition
     ∷ row W.readsNextRow [] readRate
     ∷ row W.motorNotExchanged (direction 1 ∷ setpoint 255 ∷ []) tick

@@ -7,7 +7,7 @@ use lib.ListN.{replicate}
 use Rattle.damper.specs.Step.{stepOf}
 use Rattle.damper.specs.Carry.{Step}
 use Rattle.history.specs.Claim.{Trace, Claim, traceOf}
-use Rattle.refuted.specs.Events.{tick, setpoint, badSetpoint, normalWrite, override, handOff, calibration, restart, readPosition, minRepTime, timeout, repPer, rate}
+use Rattle.refuted.specs.Events.{tick, setpoint, badSetpoint, normalWrite, override, handOff, calibration, restart, readPosition, actPosCov, minRepTime, timeout, repPer, rate}
 use Rattle.refuted.specs.Closed.{computation, Each, all, each}
 use Rattle.refuted.specs.Wrong as W
 use Rattle.refuted.specs.Sentences.{Sentence, spacing, waiting, move, position, content, others, due, refusal, formed, Latest, brokenIn, latest, latest-law}
@@ -36,6 +36,7 @@ table =
     ∷ row W.changesFromTickBefore (waiting 1) (minRepTime 1 ∷ rate 1 ∷ setpoint 255 ∷ replicate 4 tick)
     ∷ row W.refusedRefreshes move (timeout 1 ∷ setpoint 255 ∷ tick ∷ badSetpoint 255 ∷ tick ∷ [])
     ∷ row W.writeReleases move (override 100 ∷ normalWrite 0 ∷ tick ∷ [])
+    ∷ row W.writesRoundedDown move (normalWrite 1 ∷ tick ∷ [])
     ∷ row W.readCounts (waiting 1) (minRepTime 1 ∷ readPosition ∷ tick ∷ [])
     ∷ row W.readReports others (readPosition ∷ [])
     ∷ row W.neverReports (waiting 1) (minRepTime 1 ∷ setpoint 255 ∷ tick ∷ [])
@@ -46,6 +47,7 @@ table =
     ∷ row W.statusBefore content (minRepTime 1 ∷ rate 255 ∷ calibration ∷ tick ∷ [])
     ∷ row W.neverPeriodic due (minRepTime 1 ∷ repPer 1 ∷ tick ∷ tick ∷ [])
     ∷ row W.reportsAlways due (minRepTime 1 ∷ tick ∷ tick ∷ [])
+    ∷ row W.changesByPosition due (minRepTime 1 ∷ actPosCov 2 ∷ setpoint 5 ∷ tick ∷ setpoint 10 ∷ tick ∷ [])
     ∷ row W.restartKeepsSince due (minRepTime 2 ∷ tick ∷ restart ∷ tick ∷ [])
     ∷ row W.restartKeepsLast due (minRepTime 1 ∷ tick ∷ restart ∷ tick ∷ [])
     ∷ row W.restartKeepsLast (waiting 1) (minRepTime 1 ∷ tick ∷ restart ∷ tick ∷ [])

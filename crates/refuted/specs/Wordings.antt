@@ -63,9 +63,9 @@ table =
     -- ActPosCOV less one percent is a difference; MinRepTime 1, ActPosCOV 2, a setpoint, a tick, another setpoint, a tick
     ∷ row (waits C.ticksIn waitOf (λ now a b. changed (Table.actPosCov (after now) - 1) a b) 1)
     (minRepTime 1 ∷ actPosCov 2 ∷ setpoint 5 ∷ tick ∷ setpoint 10 ∷ tick ∷ [])
-    -- ActPosCOV as a position, rounded down, is a difference; MinRepTime 1, setpoint 2, a tick, setpoint 4, a tick
+    -- ActPosCOV as a position is a difference; MinRepTime 1, ActPosCOV 2, a setpoint, a tick, another setpoint, a tick
     ∷ row (waits C.ticksIn waitOf (λ now a b. leb (toPosition (Table.actPosCov (after now))) (distance a b)) 1)
-    (minRepTime 1 ∷ setpoint 2 ∷ tick ∷ setpoint 4 ∷ tick ∷ [])
+    (minRepTime 1 ∷ actPosCov 2 ∷ setpoint 5 ∷ tick ∷ setpoint 10 ∷ tick ∷ [])
     -- refused ticks count in a wait; MinRepTime 2, a refused tick, a tick
     ∷ row (waits ticksOrRefused waitOf differsBy 2) (minRepTime 2 ∷ badTick ∷ tick ∷ [])
     -- the damper moves by Rate and one; a setpoint, a tick

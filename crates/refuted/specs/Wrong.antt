@@ -1,23 +1,23 @@
 -- Wrong drives, each a step that differs from the right one in one thing. The comment over each says what it does, the sentence of
 -- the claim that refuses it, and the list of event records on which it does.
-use mathlib.Core.Bool.{Bool, false, not, _&&_}
+use mathlib.Core.Bool.{Bool, false, not, _&&_, _||_}
 use mathlib.Core.List.{List}
-use Prim.Native.Nat.{ℕ, _+_}
+use Prim.Native.Nat.{ℕ, _+_, _*_, _/_}
 use lib.Dec.{leb, ltb, eqb}
 use lib.ListN.{getD}
-use Rattle.numbers.specs.Numbers.{pick, on}
+use Rattle.numbers.specs.Numbers.{pick, on, distance}
 use Rattle.table.specs.Table.{placeOf, actPosCov, minRepTime, timeout}
 use Rattle.event.specs.declared.Event.{Event}
 use Rattle.event.specs.Kinds as Kind
 use Rattle.event.specs.Event.{eventIn}
-use Rattle.motion.specs.Motion.{toPercent, motor}
+use Rattle.motion.specs.Motion.{toPosition, toPercent, motor}
 use Rattle.rules.specs.Rank.{activeByte, rulingRank}
 use Rattle.rules.specs.Report.{status, differs, silent, sent}
 use Rattle.answer.specs.declared.Answer.the-variants.{No, Par, At, Report}
 use Rattle.damper.specs.declared.Last.{Last}
 use Rattle.damper.specs.declared.Drive.{Drive}
 use Rattle.damper.specs.declared.Outcome.{Outcome}
-use Rattle.damper.specs.Record.{last, drive, withCounts, withPosition, withTool, withHand}
+use Rattle.damper.specs.Record.{last, drive, withCounts, withPosition, withSetpoint, withTool, withHand}
 use Rattle.damper.specs.Tick.{aged, busOn, ruling, moved, advance, statusOf, due, reported}
 use Rattle.damper.specs.Step.{outcome, done, tickWith, restarted, obeyed, refusalOf, stepOf}
 use Rattle.damper.specs.Carry.{Step}
@@ -116,6 +116,11 @@ refusedRefreshes d s =
 abbrev pub writeReleases : Step
 writeReleases = only Kind.lteSetpoint (λ d e. let m = obeyed d e in done (pick (eqb (e .c) Kind.normal) (withTool m 0 0) m))
 
+-- rounds the percent of a normal write down; `move`: 1 %, a tick
+abbrev pub writesRoundedDown : Step
+writesRoundedDown =
+    only Kind.lteSetpoint (λ d e. done (pick (eqb (e .c) Kind.normal) (withSetpoint d (255 * e .b / 100)) (obeyed d e)))
+
 -- counts a read as a report; `waiting`: MinRepTime 1, a read, a tick
 abbrev pub readCounts : Step
 readCounts = only Kind.readPosition (λ d e. outcome (reported d) (At (d .position) (toPercent (d .position)) (statusOf d)))
@@ -170,6 +175,15 @@ neverPeriodic =
 abbrev pub reportsAlways : Step
 reportsAlways = reporting (λ d m. leb (minRepTime (m .params)) (m .since))
 
+-- takes ActPosCOV as a position for its change-of-value test, so that a smaller change is reported too; `due`: MinRepTime 1, ActPosCOV
+-- 2, a setpoint, a tick, a setpoint 5 further, a tick
+abbrev pub changesByPosition : Step
+changesByPosition =
+    reporting
+    (λ d m.
+    due m
+    || (leb (minRepTime (m .params)) (m .since) && leb (toPosition (actPosCov (m .params))) (distance (m .position) (m .last .position))))
+
 -- keeps since at a restart; `due`: MinRepTime 2, a tick, a restart, a tick
 abbrev pub restartKeepsSince : Step
 restartKeepsSince = only Kind.restart (λ d e. done (withCounts (restarted d) 0 (d .since)))
@@ -191,6 +205,10 @@ readsAlike d s = pick (accepts d s && leb Kind.readPosition (eventIn s .kind)) (
 -- reads percent 0
 abbrev pub readsPercentZero : Step
 readsPercentZero = only Kind.readPosition (λ d e. outcome d (At (d .position) 0 (statusOf d)))
+
+-- reads the percent rounded down
+abbrev pub readsPercentDown : Step
+readsPercentDown = only Kind.readPosition (λ d e. outcome d (At (d .position) (100 * d .position / 255) (statusOf d)))
 
 -- reads status 0
 abbrev pub readsStatusZero : Step

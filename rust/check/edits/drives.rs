@@ -12,6 +12,8 @@ const TOO_EARLY: &str = "self.since < self.params.get(Param::MinRepTime)";
 const OVERDUE: &str = "self.since >= self.params.get(Param::RepPer)";
 const IN_TIME: &str = "age <= self.params.get(Param::Timeout)";
 const RUN_LENGTH: &str = "255u16.div_ceil(rate) as u8";
+const CHANGE: &str = "100 * distance >= 255 * u32::from(self.params.get(Param::ActPosCov))";
+const TO_PERCENT: &str = "(100 * u16::from(position) + 127) / 255";
 
 const fn edit(name: &'static str, changes: &'static [(&'static str, &'static str)]) -> Edit {
     Edit { name, changes }
@@ -81,8 +83,39 @@ pub const EDITS: &[Edit] = &[
             (STEP_3, "let status = self.status(); self.run = self.run.and_then(Run::after_tick);"),
         ],
     ),
+    // Document 02, W-202: "the nearest position, halves down"
+
+    // A normal write rounded down.
+    edit(
+        "NormalWriteRoundedDown",
+        &[("position: percent_to_position(percent)", "position: (255 * u16::from(percent) / 100) as u8")],
+    ),
+    // An override rounded down.
+    edit(
+        "OverrideRoundedDown",
+        &[("Some(percent_to_position(percent))", "Some((255 * u16::from(percent) / 100) as u8)")],
+    ),
+    // BackupValue rounded down.
+    edit(
+        "BackupRoundedDown",
+        &[(
+            "percent_to_position(self.params.byte(Param::BackupValue))",
+            "(255 * self.params.get(Param::BackupValue) / 100) as u8",
+        )],
+    ),
+    // Halves up, in all three.
+    edit("HalvesUp", &[("u16::from(percent) + 49", "u16::from(percent) + 50")]),
     // Admitted by demand 3 alone, or out of its sight
 
+    // The percent of a read rounded down.
+    edit("PercentRoundedDown", &[(TO_PERCENT, "100 * u16::from(position) / 255")]),
+    // The percent of a read rounded up.
+    edit("PercentRoundedUp", &[(TO_PERCENT, "(100 * u16::from(position)).div_ceil(255)")]),
+    // ActPosCOV as a position: 2 % is 5, where step 4 asks for 6.
+    edit(
+        "CovAsPosition",
+        &[(CHANGE, "distance >= u32::from(percent_to_position(self.params.byte(Param::ActPosCov)))")],
+    ),
     // No periodic report.
     edit("NeverPeriodic", &[(OVERDUE, "false")]),
     // Age and since go on from 65,535 to 0.

@@ -37,6 +37,14 @@ pub const EDITS: &[Edit] = &[
         "EarlierMinRepTime",
         &[("checked_sub(last.min_rep_time)", "checked_sub(before.last().unwrap_or(last).min_rep_time)")],
     ),
+    // Waiting by ActPosCOV as a position.
+    edit(
+        "CovAsPosition",
+        &[(
+            "100 * distance >= 255 * last.act_pos_cov",
+            "distance >= u64::from(position_of(last.act_pos_cov as u8))",
+        )],
+    ),
     // Spacing by MinRepTime in force at the earlier report.
     edit("SpacingByEarlier", &[("< later.min_rep_time", "< earlier.min_rep_time")]),
 ];

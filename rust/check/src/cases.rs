@@ -29,11 +29,11 @@ pub fn all() -> impl Iterator<Item = &'static Case> {
 }
 
 pub const CASES: &[Case] = &[
-    // "What the drive program prints"
+    // "What the drive program prints", which W-202 ends with `at 5 2 0`
     case(
         "printed example",
         "5AC302800000 5AC301000000 5AC306020000 5AC30A000000",
-        &[(1, "ok"), (2, "tick 5 1 1 -"), (3, "no 6"), (4, "at 5 1 0")],
+        &[(1, "ok"), (2, "tick 5 1 1 -"), (3, "no 6"), (4, "at 5 2 0")],
     ),
     // Wordings of demand 3 that look right and are false
     rejected(
@@ -56,6 +56,12 @@ pub const CASES: &[Case] = &[
         "T*10 5AC308750001 5AC302800000 T",
         "SpacingByEarlier",
         Clause::Spacing,
+    ),
+    rejected(
+        "ActPosCOV 2 and a distance of 5",
+        "5AC308750001 5AC308740002 5AC302000000 T 5AC302050000 T",
+        "CovAsPosition",
+        Clause::Waiting,
     ),
     // "Errors that builders of drives make"
     case(
@@ -110,11 +116,49 @@ pub const CASES: &[Case] = &[
         &[(4, "tick 0 0 2 -"), (6, "tick 5 1 1 -"), (7, "tick 0 0 2 -")],
     ),
     case("a count past 65,535", "5AC302800000 T*70000 5AC30A000000", &[(70_002, "at 0 0 32")]),
+    // Document 02, W-202
+    case(
+        "1 % by a normal write",
+        "5AC308CB00FF 5AC303330100 T 5AC30A000000",
+        &[(3, "tick 3 1 1 -"), (4, "at 3 1 0")],
+    ),
+    case(
+        "1 % by an override",
+        "5AC308CB00FF 5AC303330101 T 5AC30A000000",
+        &[(3, "tick 3 2 1 -"), (4, "at 3 1 34")],
+    ),
+    case(
+        "BackupValue 1 %, then 30 %",
+        "5AC308790001 T T 5AC30A000000 5AC30879001E T*16 5AC30A000000",
+        &[
+            (2, "tick 3 0 1 -"),
+            (3, "tick 3 0 0 -"),
+            (4, "at 3 1 32"),
+            (20, "tick 76 0 1 -"),
+            (22, "at 76 30 32"),
+        ],
+    ),
+    case(
+        "the five halves, 10, 30, 50, 70 and 90 %",
+        "5AC308CB00FF 5AC303330A00 T 5AC303331E00 T 5AC303333200 T 5AC303334600 T 5AC303335A00 T",
+        &[
+            (3, "tick 25 1 1 -"),
+            (5, "tick 76 1 1 -"),
+            (7, "tick 127 1 1 -"),
+            (9, "tick 178 1 1 -"),
+            (11, "tick 229 1 1 -"),
+        ],
+    ),
+    case(
+        "ActPosCOV 2, as a position 5: distance 5 is no change, 6 is",
+        "5AC308750001 5AC308740002 5AC302000000 T 5AC302050000 T 5AC302060000 T",
+        &[(4, "tick 0 1 0 0"), (6, "tick 5 1 1 -"), (8, "tick 6 1 1 0")],
+    ),
     // Runs
     case(
         "calibration over a sync run takes K anew",
         "5AC3087A0002 5AC309000000 T*2 5AC306000000 5AC30A000000 T*51 T",
-        &[(4, "tick 10 4 1 -"), (6, "at 10 3 36"), (57, "tick 0 4 0 32"), (58, "tick 0 0 0 -")],
+        &[(4, "tick 10 4 1 -"), (6, "at 10 4 36"), (57, "tick 0 4 0 32"), (58, "tick 0 0 0 -")],
     ),
     case("Rate during a run", "5AC306000000 5AC308CB0005 5AC308CB0000", &[(2, "no 12"), (3, "no 10")]),
     case(
@@ -125,7 +169,7 @@ pub const CASES: &[Case] = &[
     case(
         "forcing ends a run, forcing 1 does not",
         "5AC306000000 5AC304010000 5AC308CB0004 5AC304030000 5AC308CB0004 T 5AC30A000000",
-        &[(3, "no 12"), (5, "ok"), (6, "tick 4 5 1 -"), (7, "at 4 1 48")],
+        &[(3, "no 12"), (5, "ok"), (6, "tick 4 5 1 -"), (7, "at 4 2 48")],
     ),
     // Ranks and targets
     case(
@@ -146,7 +190,7 @@ pub const CASES: &[Case] = &[
     case(
         "a fault beside forcing",
         "5AC304030000 T 5AC307010000 T 5AC30A000000",
-        &[(2, "tick 5 5 1 -"), (4, "tick 5 6 0 -"), (5, "at 5 1 49")],
+        &[(2, "tick 5 5 1 -"), (4, "tick 5 6 0 -"), (5, "at 5 2 49")],
     ),
     case(
         "OpenCloseDirection 1",

@@ -67,9 +67,10 @@ fn ruling(active: u8) -> u8 {
     7 - active.leading_zeros() as u8
 }
 
-/// "Percent p becomes position 255 × p / 100, rounded down."
+/// Document 02, W-202: "a percent becomes the nearest position, halves down", so up only by more than a half.
 fn position_of(percent: u64) -> u8 {
-    (255 * percent / 100) as u8
+    let (down, hundredths) = (255 * percent / 100, 255 * percent % 100);
+    (if hundredths > 50 { down + 1 } else { down }) as u8
 }
 
 /// How many of a, b, c each kind 0 to 11 uses; the rest have to be 0.

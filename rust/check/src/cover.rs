@@ -2,13 +2,15 @@
 
 use crate::flag::Flag;
 use crate::gen::Origin;
-use crate::model::Model;
+use crate::model::{percent_to_position, Model};
 use crate::subject::Subject;
 use crate::table::Param;
-use damper::{Answer, Drive, Refusal, Status};
+use damper::{Answer, Drive, Rank, Refusal, Status};
 
 const RUN_ENDS: [&str; 5] = ["its ticks passed", "fault", "forcing", "restart", "new calibration"];
 const REASONS: [&str; 4] = ["no report yet", "change of value", "status", "RepPer"];
+const PERCENTS: [&str; 3] = ["normal write", "override", "tick by backup"];
+const UNCHANGED: [&str; 2] = ["silent after the wait", "report for another reason"];
 
 #[derive(Default)]
 pub struct Cover {
@@ -21,6 +23,15 @@ pub struct Cover {
     revived: u64,
     /// Reports by the first reason that holds, in the order of step 4.
     reasons: [u64; 4],
+    /// Percents half way between two positions: at index 0 and 1 by that command, at 2 BackupValue where a
+    /// tick by backup ends.
+    halves: [u64; 3],
+    /// Percents nearer to the upper of two positions, likewise.
+    raised: [u64; 3],
+    /// Reads of a position nearer to the upper of two percents.
+    raised_reads: u64,
+    /// Ticks whose distance from the last report is ActPosCOV as a position and no change by step 4.
+    unchanged: [u64; 2],
     /// Records of single steps, by origin.
     origins: [u64; 5],
     /// Records refused by 1 that the flag alone, a byte above 1, keeps from being well formed.
@@ -49,33 +60,53 @@ impl Cover {
     pub fn event(&mut self, before: &Drive, bytes: &[u8], answer: &Answer, after: &Drive) {
         match *answer {
             Answer::Refused(refusal) => self.refusal(refusal),
-            Answer::Tick { position, rank, report, .. } => {
-                self.ranks[rank.number() as usize] += 1;
-                if before.run.kind != 0 && after.run.kind == 0 {
-                    self.run_ends[0] += 1;
-                }
-                if let Some(status) = report {
-                    self.reasons[reason(before, position, status)] += 1;
-                }
+            Answer::Tick { rank, report, .. } => self.tick(before, rank, report, after),
+            Answer::Done => self.accepted(before, bytes, after),
+            Answer::Position { position, .. } => {
+                self.raised_reads += u64::from(100 * u16::from(position) % 255 > 127)
             }
-            Answer::Done => self.accepted(before, bytes[2], after),
-            Answer::Parameter(_) | Answer::Position { .. } => {}
+            Answer::Parameter(_) => {}
         }
     }
 
-    fn accepted(&mut self, before: &Drive, kind: u8, after: &Drive) {
+    fn tick(&mut self, before: &Drive, rank: Rank, report: Option<Status>, after: &Drive) {
+        self.ranks[rank.number() as usize] += 1;
+        if before.run.kind != 0 && after.run.kind == 0 {
+            self.run_ends[0] += 1;
+        }
+        if let Some(status) = report {
+            self.reasons[reason(before, after.position, status)] += 1;
+        }
+        let by_value = rank == Rank::Backup && param(before, Param::BackupMode) == 0;
+        let value = param(before, Param::BackupValue) as u8;
+        if by_value && after.position == percent_to_position(value) {
+            self.percent(2, value);
+        }
+        if cov_as_position(before, after.position) {
+            match report {
+                None if after.since < param(after, Param::MinRepTime) => {}
+                None => self.unchanged[0] += 1,
+                Some(_) => self.unchanged[1] += 1,
+            }
+        }
+    }
+
+    fn percent(&mut self, by: usize, percent: u8) {
+        let hundredths = 255 * u16::from(percent) % 100;
+        self.halves[by] += u64::from(hundredths == 50);
+        self.raised[by] += u64::from(hundredths > 50);
+    }
+
+    fn accepted(&mut self, before: &Drive, bytes: &[u8], after: &Drive) {
         let ran = before.run.kind != 0;
-        match kind {
+        let in_time = |r: &Drive| r.age <= param(r, Param::Timeout);
+        match bytes[2] {
+            3 if bytes[5] < 2 => self.percent(bytes[5].into(), bytes[4]),
             7 if ran && after.run.kind == 0 => self.run_ends[1] += 1,
             4 if ran && after.run.kind == 0 => self.run_ends[2] += 1,
             9 if ran => self.run_ends[3] += 1,
             6 if ran => self.run_ends[4] += 1,
-            8 if before.commands.stored == 1 => {
-                let timeout = |r: &Drive| r.params[Param::Timeout as usize];
-                if before.age > timeout(before) && after.age <= timeout(after) {
-                    self.revived += 1;
-                }
-            }
+            8 if before.commands.stored == 1 && !in_time(before) && in_time(after) => self.revived += 1,
             _ => {}
         }
     }
@@ -87,19 +118,41 @@ impl Cover {
         let ends = (0..5).map(|i| (format!("run ended: {}", RUN_ENDS[i]), self.run_ends[i]));
         let revived = [("setpoint revived".to_string(), self.revived)];
         let reasons = (0..4).map(|i| (format!("report: {}", REASONS[i]), self.reasons[i]));
+        let halves = (0..3).map(|i| (format!("percent half way: {}", PERCENTS[i]), self.halves[i]));
+        let raised = (0..3).map(|i| (format!("percent rounded up: {}", PERCENTS[i]), self.raised[i]));
+        let reads = [("read rounded up".to_string(), self.raised_reads)];
+        let unchanged =
+            (0..2).map(|i| (format!("ActPosCOV as a position: {}", UNCHANGED[i]), self.unchanged[i]));
+        let percents = halves.chain(raised).chain(reads).chain(unchanged);
         let origins = Origin::ALL.map(|o| (format!("record: {o:?}"), self.origins[o as usize]));
         let flags = Flag::ALL.map(|f| (format!("refused for the flag {f:?}"), self.flags[f as usize]));
         let events = refusals.chain(ranks).chain(ends).chain(revived).chain(reasons);
-        events.chain(origins).chain(flags).collect()
+        events.chain(percents).chain(origins).chain(flags).collect()
     }
+}
+
+fn param(record: &Drive, param: Param) -> u16 {
+    record.params[param as usize]
+}
+
+/// "100 × the distance from the last reported position is at least 255 × ActPosCOV"
+fn changed(before: &Drive, position: u8) -> bool {
+    let distance = u16::from(position.abs_diff(before.last.position));
+    100 * distance >= 255 * param(before, Param::ActPosCov)
+}
+
+/// As far from the last report as ActPosCOV as a position, and no change.
+fn cov_as_position(before: &Drive, position: u8) -> bool {
+    let distance = position.abs_diff(before.last.position);
+    let cov = percent_to_position(param(before, Param::ActPosCov) as u8);
+    before.last.reported == 1 && distance >= cov && !changed(before, position)
 }
 
 /// The first of step 4's reasons that held for a report.
 fn reason(before: &Drive, position: u8, Status(status): Status) -> usize {
-    let distance = u64::from(position.abs_diff(before.last.position));
     if before.last.reported == 0 {
         0
-    } else if 100 * distance >= 255 * u64::from(before.params[Param::ActPosCov as usize]) {
+    } else if changed(before, position) {
         1
     } else if status != before.last.status {
         2

@@ -30,7 +30,7 @@ impl Forcing {
     }
 }
 
-/// The command of an LTE setpoint, with the percent already a position.
+/// The command of an LTE setpoint, with its percent, 0 to 100.
 #[derive(Clone, Copy, PartialEq, Eq, Debug)]
 pub enum Command {
     Normal(u8),
@@ -83,8 +83,8 @@ impl Event {
                     (2, _) => Command::Release,
                     (3.., _) => return Err(Refusal::Command),
                     (_, 101..) => return Err(Refusal::Percent),
-                    (0, _) => Command::Normal(percent_to_position(b)),
-                    (1, _) => Command::Override(percent_to_position(b)),
+                    (0, _) => Command::Normal(b),
+                    (1, _) => Command::Override(b),
                 };
                 Event::Lte { mode, command }
             }
@@ -124,11 +124,6 @@ fn fields(bytes: &[u8]) -> Result<[u8; 4], Refusal> {
         return Err(Refusal::Mark);
     }
     Ok([kind, a, b, c])
-}
-
-/// "Percent p becomes position 255 × p / 100, rounded down."
-pub fn percent_to_position(percent: u8) -> u8 {
-    (255 * u16::from(percent) / 100) as u8
 }
 
 /// "The reader takes bytes, checks 2 to 8 and gives kind, a, b, c."

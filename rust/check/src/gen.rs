@@ -2,9 +2,10 @@
 //!
 //! Lists are biased to accepted events and to the limits where drives go wrong: small MinRepTime,
 //! Timeout and RepPer, bursts of ticks that stop about a limit, positions on the grid of 51 where
-//! 100 × the distance can equal 255 × ActPosCOV.
+//! 100 × the distance can equal 255 × ActPosCOV, positions about ActPosCOV off the last report, percents half
+//! way between two positions.
 
-use crate::event::{percent_to_position, Event, MARK};
+use crate::event::{Event, MARK};
 use crate::flag::Flag;
 use crate::model::Model;
 use crate::subject::Subject;
@@ -93,6 +94,9 @@ impl Origin {
 }
 
 const GRID: [u8; 6] = [0, 51, 102, 153, 204, 255];
+const GRID_PERCENTS: [u8; 6] = [0, 20, 40, 60, 80, 100];
+/// Percents half way between two positions.
+const HALVES: [u8; 5] = [10, 30, 50, 70, 90];
 
 pub struct Gen {
     pub rng: Rng,
@@ -255,19 +259,32 @@ impl Gen {
     }
 
     fn position(&mut self, record: &Drive) -> u8 {
-        match self.rng.below(4) {
+        match self.rng.below(5) {
             _ if self.grid => self.rng.pick(&GRID),
             0 => self.rng.pick(&GRID),
             1 => record.position.saturating_add(self.rng.below(5) as u8).saturating_sub(2),
+            2 => self.about_cov_off(record.last.position, record),
             _ => self.rng.byte(),
         }
     }
 
-    fn percent(&mut self) -> u8 {
-        if self.grid || self.rng.once_in(2) {
-            self.rng.pick(&[0, 20, 40, 60, 80, 100])
+    /// About the least distance off a position that is a change by ActPosCOV.
+    fn about_cov_off(&mut self, position: u8, record: &Drive) -> u8 {
+        let least = (255 * u32::from(record.params[Param::ActPosCov as usize])).div_ceil(100) as u8;
+        let far = least.saturating_add(self.rng.below(2) as u8).saturating_sub(self.rng.below(3) as u8);
+        if self.rng.once_in(2) {
+            position.saturating_sub(far)
         } else {
-            self.rng.below(101) as u8
+            position.saturating_add(far)
+        }
+    }
+
+    fn percent(&mut self) -> u8 {
+        match self.rng.below(6) {
+            _ if self.grid => self.rng.pick(&GRID_PERCENTS),
+            0..3 => self.rng.pick(&GRID_PERCENTS),
+            3 => self.rng.pick(&HALVES),
+            _ => self.rng.below(101) as u8,
         }
     }
 
@@ -329,7 +346,7 @@ impl Gen {
             Param::Rate => rng.pick(&[1, 2, 3, 4, 5, 5, 17, 50, 51, 64, 85, 127, 128, 254, 255, any]),
             Param::Low => rng.pick(&[0, 0, 0, 1, any % 80, any % 80, any]),
             Param::High => rng.pick(&[255, 255, 255, 254, 255 - any % 80, 255 - any % 80, any]),
-            Param::BackupValue if self.grid => rng.pick(&[0, 20, 40, 60, 80, 100]),
+            Param::BackupValue => self.percent().into(),
             _ => any,
         }
     }
@@ -419,15 +436,12 @@ impl Gen {
         }
     }
 
-    /// About as far from the position as ActPosCOV.
+    /// Mostly about ActPosCOV off the position.
     fn last_position(&mut self, r: &Drive) -> u8 {
-        let cov = percent_to_position(r.params[Param::ActPosCov as usize] as u8);
-        let near = cov.saturating_add(self.rng.below(3) as u8).saturating_sub(self.rng.below(2) as u8);
         match self.rng.below(6) {
             0 => self.position(r),
             1 => r.position,
-            2 | 3 => r.position.saturating_sub(near),
-            _ => r.position.saturating_add(near),
+            _ => self.about_cov_off(r.position, r),
         }
     }
 

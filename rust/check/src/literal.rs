@@ -46,8 +46,11 @@ fn tool(events: &[Event]) -> Option<u8> {
     latest(events, |e| e[0] == 3 && e[3] > 0).filter(|e| e[3] == 1).map(|e| position_of(e[2]))
 }
 
+/// Document 02, W-202: "a percent becomes the nearest position, halves down". Of equally near ones the search
+/// gives the first.
 fn position_of(percent: u8) -> u8 {
-    (255 * u16::from(percent) / 100) as u8
+    let distance = |position: &u8| (100 * u16::from(*position)).abs_diff(255 * u16::from(percent));
+    (0..=255).min_by_key(distance).expect("a position")
 }
 
 /// The setpoint and how many ticks followed it.

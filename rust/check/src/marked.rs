@@ -1,4 +1,5 @@
-//! Document 01's marked rows m1 to m12, each as a list of events and the printed lines that show it.
+//! Document 01's marked rows m1 to m12, m3 as in document 02's W-202, each as a list of events and the printed
+//! lines that show it.
 
 use crate::cases::{case, Case};
 
@@ -23,7 +24,7 @@ pub const ROWS: &[Case] = &[
     case(
         "m3: percent 0, 1, 50, 100, at Rate 255",
         "5AC308CB00FF 5AC303330000 T 5AC303330100 T 5AC303333200 T 5AC303336400 T",
-        &[(3, "tick 0 1 0 -"), (5, "tick 2 1 1 -"), (7, "tick 127 1 1 -"), (9, "tick 255 1 1 -")],
+        &[(3, "tick 0 1 0 -"), (5, "tick 3 1 1 -"), (7, "tick 127 1 1 -"), (9, "tick 255 1 1 -")],
     ),
     case(
         "m4: distance 2 is no change, 3 is",

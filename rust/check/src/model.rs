@@ -1,7 +1,8 @@
-//! The drive of document 01. A record becomes a `State`, in which what is absent is absent; one that cannot
-//! is refused by 1. An event then acts on the state or is refused by 9 to 13.
+//! The drive of document 01, with the percents of document 02's W-202. A record becomes a `State`, in which
+//! what is absent is absent; one that cannot is refused by 1. An event then acts on the state or is refused
+//! by 9 to 13.
 
-use crate::event::{self, percent_to_position, Command, Event, Forcing};
+use crate::event::{self, Command, Event, Forcing};
 use crate::subject::Subject;
 use crate::table::{Param, Params};
 use damper::{Answer, Commands, Drive, Last, Motor, Rank, Refusal, Status};
@@ -49,6 +50,16 @@ impl Model {
             Err(refusal) => Answer::Refused(refusal),
         }
     }
+}
+
+/// Document 02, W-202: "a percent becomes the nearest position, halves down". With 50 for 49 they would go up.
+pub fn percent_to_position(percent: u8) -> u8 {
+    ((255 * u16::from(percent) + 49) / 100) as u8
+}
+
+/// Document 02, W-202: "A position becomes the nearest percent." Two are never equally near, 255 being odd.
+pub fn position_to_percent(position: u8) -> u8 {
+    ((100 * u16::from(position) + 127) / 255) as u8
 }
 
 /// "K = 255 divided by Rate, rounded up."
@@ -236,8 +247,10 @@ impl State {
                 return Err(Refusal::Property)
             }
             Event::Lte { command, .. } => match command {
-                Command::Normal(position) => self.bus = Some(Setpoint { position, age: 0 }),
-                Command::Override(position) => self.tool = Some(position),
+                Command::Normal(percent) => {
+                    self.bus = Some(Setpoint { position: percent_to_position(percent), age: 0 })
+                }
+                Command::Override(percent) => self.tool = Some(percent_to_position(percent)),
                 Command::Release => self.tool = None,
             },
             Event::Forcing(forcing) => {
@@ -267,7 +280,7 @@ impl State {
             Event::ReadPosition => {
                 return Ok(Answer::Position {
                     position: self.position,
-                    percent: (100 * u16::from(self.position) / 255) as u8,
+                    percent: position_to_percent(self.position),
                     status: self.status(),
                 })
             }

@@ -87,6 +87,19 @@ fn idle_drives_break_it() {
     assert!(found(wrong::named("SinceStartsHigh"), &report_restart_tick).has(Clause::Spacing));
 }
 
+/// A percent that takes the damper to another position than the nearest one breaks it.
+#[test]
+fn other_positions_break_it() {
+    let moved_wrong =
+        |name, event| found(wrong::named(name), &[vec![event], ticks(30)].concat()).has(Clause::Move);
+    assert!(moved_wrong("NormalWriteRoundedDown", Bytes::event(3, 51, 1, 0)));
+    assert!(moved_wrong("OverrideRoundedDown", Bytes::event(3, 51, 1, 1)));
+    assert!(moved_wrong("BackupRoundedDown", Bytes::event(8, 121, 0, 1)));
+    for half in [Bytes::event(3, 51, 50, 0), Bytes::event(3, 51, 50, 1), Bytes::event(8, 121, 0, 50)] {
+        assert!(moved_wrong("HalvesUp", half));
+    }
+}
+
 /// No clause of the checker is idle: each is broken by a wrong drive on a fixed list.
 #[test]
 fn every_clause_is_broken_somewhere() {
@@ -105,8 +118,15 @@ fn every_clause_is_broken_somewhere() {
 /// Demand 3 alone admits these; the equalities of demand 2 do not.
 #[test]
 fn what_it_admits() {
-    for name in ["NeverPeriodic", "PeriodGreater", "SinceKeptAtRestart"] {
-        let caught = catch(wrong::named(name), 1, 20_000);
+    for name in [
+        "NeverPeriodic",
+        "PeriodGreater",
+        "SinceKeptAtRestart",
+        "PercentRoundedDown",
+        "PercentRoundedUp",
+        "CovAsPosition",
+    ] {
+        let caught = catch(wrong::named(name), 1, 60_000);
         assert!(caught.by_demand_3.is_none());
         assert!(caught.by_lists.is_some());
     }

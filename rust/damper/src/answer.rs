@@ -16,7 +16,7 @@ pub enum Answer {
     Position {
         /// 0 to 255.
         position: u8,
-        /// 100 × position / 255, rounded down.
+        /// The percent nearest to the position.
         percent: u8,
         /// As the drive stands.
         status: Status,

@@ -39,9 +39,10 @@ pub enum Event {
 /// The command of an LTE setpoint.
 #[derive(Clone, Copy, PartialEq, Eq, Hash, Debug)]
 pub enum Command {
-    /// 0: a normal write of a bus setpoint, in percent up to 100.
+    /// 0: a normal write of a bus setpoint, in percent up to 100, which becomes the nearest position, halves
+    /// down.
     Write(u8),
-    /// 1: an override, in percent up to 100.
+    /// 1: an override, in percent up to 100, likewise.
     Override(u8),
     /// 2: the override ends.
     Release,

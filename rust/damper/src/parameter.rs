@@ -11,13 +11,13 @@ pub enum Parameter {
     DamperMode,
     /// 115, 0 or 1: at 1 the motor's directions are exchanged.
     OpenCloseDirection,
-    /// 116, percent: the change of position that is reported.
+    /// 116, percent of 255: the change of position that is reported.
     ActPosCov,
     /// 117, seconds: the least time between reports.
     MinRepTime,
     /// 120: backup goes to BackupValue at 0, at 1 to the last setpoint, or stands still with none.
     BackupMode,
-    /// 121, percent.
+    /// 121, percent: it becomes the nearest position, halves down.
     BackupValue,
     /// 122: after a restart, 1 runs toward 0 and 2 toward 255.
     StartSynchronization,

@@ -9,4 +9,4 @@ unfolding toPercent
 returns c = refl
 
 pub to-percent-spec : {M : Type 1} → statement M
-to-percent-spec = tie.close (tie.spec (λ c. search needs) (λ c. search needs) returns)
+to-percent-spec = tie.close (tie.spec (λ c. search needs) (λ c. search needs) (λ c. search needs) returns)

@@ -9,4 +9,4 @@ unfolding toPosition
 returns c = refl
 
 pub to-position-spec : {M : Type 1} → statement M
-to-position-spec = tie.close (tie.spec (λ c. search needs) (λ c. search needs) returns)
+to-position-spec = tie.close (tie.spec (λ c. search needs) (λ c. search needs) (λ c. search needs) returns)
