@@ -245,7 +245,7 @@ static void parameters(damper_drive fresh)
     d = NAMED(d, BACKUP_MODE, 1);
     CHECK(rank(ticked(d, 1)) == DAMPER_RANK_BACKUP && motor(ticked(d, 1)) == DAMPER_MOTOR_FORWARD);
 
-    CHECK(ticked(NAMED(fresh, BACKUP_VALUE, 1), 1).position == 2);
+    CHECK(ticked(NAMED(fresh, BACKUP_VALUE, 1), 1).position == 3);
     CHECK(restarted(NAMED(fresh, START_SYNCHRONIZATION, 2)).run.kind == DAMPER_RUN_SYNC_OPEN);
     CHECK(ticked(NAMED(fresh, LOW, 9), 3).position == 9);
     CHECK(ticked(NAMED(with_setpoint(fresh, 255), HIGH, 9), 3).position == 9);
@@ -317,6 +317,24 @@ static void ranks_and_status(damper_drive fresh)
     CHECK(status(with_setpoint(d, 0)) == DAMPER_STATUS_SYNC);
 }
 
+/* The percent that is read once a tick at Rate 255 has moved the damper. */
+static unsigned percent_reached(damper_drive d)
+{
+    damper_stepped s = give(ticked(with_param(d, DAMPER_NUMBER_RATE, 255), 1), DAMPER_KIND_READ_POSITION, 0, 0, 0);
+    return damper_answer_percent(s.word, s.code);
+}
+
+/* Every percent reads back as itself, given in any of the three ways. */
+static void percents(damper_drive fresh)
+{
+    for (unsigned percent = 0; percent <= 100; percent++) {
+        damper_drive d = after(fresh, DAMPER_KIND_LTE_SETPOINT, DAMPER_LTE_PROPERTY(1), percent, DAMPER_LTE_WRITE);
+        CHECK(percent_reached(d) == percent);
+        CHECK(percent_reached(with_tool(fresh, percent)) == percent);
+        CHECK(percent_reached(with_param(fresh, DAMPER_NUMBER_BACKUP_VALUE, percent)) == percent);
+    }
+}
+
 /* What the helpers take from each word's answer; all four values of a report differ. */
 static void answers(damper_drive fresh)
 {
@@ -330,7 +348,7 @@ static void answers(damper_drive fresh)
         {give(d, DAMPER_KIND_TICK, 1, 0, 0), DAMPER_WORD_NO, DAMPER_REFUSAL_UNUSED, 0, 0, 0, 0, 0, 0},
         {give(d, DAMPER_KIND_SETPOINT, 7, 0, 0), DAMPER_WORD_OK, 0, 0, 0, 0, 0, 0, 0},
         {give(d, DAMPER_KIND_READ_PARAMETER, DAMPER_NUMBER_TIMEOUT, 0, 0), DAMPER_WORD_PAR, 0, 1860, 0, 0, 0, 0, 0},
-        {give(ticked(d, 1), DAMPER_KIND_READ_POSITION, 0, 0, 0), DAMPER_WORD_AT, 0, 0, 5, 1, hand, 0, 0},
+        {give(ticked(d, 1), DAMPER_KIND_READ_POSITION, 0, 0, 0), DAMPER_WORD_AT, 0, 0, 5, 2, hand, 0, 0},
         {tick(d), DAMPER_WORD_TICK, 0, 0, 5, 0, 0, DAMPER_RANK_HAND, DAMPER_MOTOR_FORWARD},
         {tick(quick), DAMPER_WORD_REPORT, 0, 0, 5, 0, hand, DAMPER_RANK_HAND, DAMPER_MOTOR_FORWARD},
     };
@@ -668,6 +686,7 @@ int main(void)
     refusals(fresh);
     ranks_and_status(fresh);
     answers(fresh);
+    percents(fresh);
     reader_and_writer();
     replay(fresh);
     hall_events(fresh);
