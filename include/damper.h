@@ -27,8 +27,8 @@
  *     may call it at any time.
  *   - It takes at most DAMPER_STACK bytes of stack below the caller's frame, the red zone of the x86-64 ABI among them.
  *
- * Numbers are document 01's, those of a hall request W-201's. A position is 0 to 255, where 255 is 100 %; a time is in ticks
- * of a second.
+ * Numbers are document 01's, those of a hall request W-201's, percents request W-202's. A position is 0 to 255, where 255 is
+ * 100 %; a time is in ticks of a second.
  */
 #ifndef DAMPER_H
 #define DAMPER_H
@@ -401,7 +401,7 @@ static inline uint8_t damper_answer_position(uint8_t word, uint32_t code)
     return word == DAMPER_WORD_REPORT ? (uint8_t)(code >> 24) : 0;
 }
 
-/* AT: the position in %, the nearest. A percent that was written reads back as itself where the damper has arrived. */
+/* AT: the position in %, the nearest. Where the damper stands at what a percent became, it is that percent. */
 static inline uint8_t damper_answer_percent(uint8_t word, uint32_t code)
 {
     return word == DAMPER_WORD_AT ? (uint8_t)(code >> 8) : 0;

@@ -1,47 +1,59 @@
--- Document 02, W-202, of the drive: "Every percent from 0 to 100, written and converted back, must be itself. Backup values follow the
--- same rule."
+-- Document 02, W-202, of every well-formed drive: "Every percent from 0 to 100, written and converted back, must be itself. Backup values
+-- follow the same rule."
 use mathlib.Core.Path.{_≡_, refl}
 use mathlib.Core.Bool.{true}
 use mathlib.Core.List.{List}
-use Prim.Native.Nat.{ℕ, _≤_}
-use Rattle.table.specs.Table.{backupMode, backupValue, low, high}
+use Prim.Native.Nat.{ℕ, _+_, _≤_}
+use native.Mathlib.Omega.{arith}
+use borrow.Author.Tests.{le-leb, le-ltb, eq-eqb}
+use Rattle.table.specs.Table.{rows, rowAt, damperMode, backupMode, backupValue, low, high}
+use Rattle.table.specs.Laws.{bounds, range-at}
 use Rattle.event.specs.Kinds as Kind
-use Rattle.event.specs.Event.{event, eventIn, bytesOf, formOf, dataRefusal, recordRefusal}
-use Rattle.event.specs.Laws.{admitted}
+use Rattle.event.specs.Event.{event, bytesOf, formOf, dataRefusal, recordRefusal}
 use Rattle.motion.specs.Motion.{toPosition, toPercent}
 use Rattle.motion.specs.Laws.{percent-round-trip, within-same}
-use Rattle.rules.specs.declared.Commands.{Commands}
-use Rattle.rules.specs.Rank.{backupTarget}
+use Rattle.rules.specs.Rank.{backupTarget, targets}
 use Rattle.rules.specs.Refusal.{stateRefusal, refusal}
-use Rattle.answer.specs.declared.Answer.the-variants.{At}
+use Rattle.answer.specs.declared.Answer.the-variants.{Done, At}
 use Rattle.damper.specs.declared.Drive.{Drive}
 use Rattle.damper.specs.WellFormed.{wellFormed}
-use Rattle.damper.specs.Tick.{statusOf}
-use Rattle.damper.specs.Step.{outcome, applied, refusalOf, stepOf}
-use Rattle.damper.specs.Laws.{refusal-none}
-use Rattle.invariant.specs.Effects.{commandsBy, commands-after, step-accepted}
+use Rattle.damper.specs.Tick.{statusOf, targetAt}
+use Rattle.damper.specs.Step.{outcome, commanded, obeyed, applied, refusalOf, stepOf}
+use Rattle.damper.specs.Laws.{wf-in}
+use Rattle.invariant.specs.Effects.{step-accepted}
 
--- an accepted record of kind 3: the percent of a normal write is that of the setpoint that it leaves, the percent of an override that of
--- the tool's value
-module _ (d : Drive) (s : List ℕ) (taken : refusalOf d s ≡ 0) (kind : eventIn s .kind ≡ Kind.lteSetpoint) where
-  commands-left : stepOf d s .drive .commands ≡ commandsBy (eventIn s) (d .commands)
-  commands-left = rw (step-accepted d s taken) (commands-after d (eventIn s) (admitted (eventIn s) (refusal-none d s taken .2) .kind))
+-- `p` percent with command `c` to the property of the drive's DamperMode
+abbrev pub percentTo : Drive → ℕ → ℕ → List ℕ
+percentTo d p c = bytesOf (event Kind.lteSetpoint (50 + damperMode (d .params)) p c)
 
-  pub percent-written : eventIn s .c ≡ Kind.normal → toPercent (stepOf d s .drive .commands .setpoint) ≡ eventIn s .b
-  percent-written c = rw (commands-left, kind, c) (percent-round-trip (eventIn s .b))
+module _ (d : Drive) (p : ℕ) (formed : wellFormed d ≡ true) where
+  percent-taken : (c : ℕ) → p ≤ 100 → c ≤ 1 → refusalOf d (percentTo d p c) ≡ 0
+  unfolding refusalOf refusal recordRefusal dataRefusal formOf stateRefusal
+  percent-taken c h k =
+      let m = damperMode (d .params) in
+      let b = bounds (rowAt rows 0) m (range-at rows (d .params) 0 (wf-in d formed) (omega arith)) in
+      let l : 51 ≤ 50 + m = omega arith in
+      let u : 50 + m ≤ 54 = omega arith in
+      simp (formed, le-leb _ _ l, le-leb _ _ u, le-ltb 100 p h, le-ltb 2 c (omega arith), le-leb _ _ k, eq-eqb (50 + m) (50 + m) refl)
 
-  pub percent-overridden : eventIn s .c ≡ Kind.override → toPercent (stepOf d s .drive .commands .toolpos) ≡ eventIn s .b
-  percent-overridden c = rw (commands-left, kind, c) (percent-round-trip (eventIn s .b))
+  -- a normal write is accepted, and its percent is that of the setpoint that it leaves
+  pub percent-written : p ≤ 100 → (let o = stepOf d (percentTo d p Kind.normal) in (o .answer ≡ Done) × (toPercent (o .drive .commands .setpoint) ≡ p))
+  unfolding applied obeyed commanded
+  percent-written h = rw (step-accepted d (percentTo d p 0) (percent-taken 0 h (omega arith))) (refl, percent-round-trip p)
 
--- with BackupMode 0 the target of backup, where Low and High leave it alone, is that of BackupValue
-pub percent-backup : (c : Commands) (position : ℕ) (q : List ℕ) → backupMode q ≡ 0
-    → low q ≤ toPosition (backupValue q) → toPosition (backupValue q) ≤ high q
-    → toPercent (backupTarget c position q) ≡ backupValue q
-unfolding backupTarget
-percent-backup c position q m l h = rw (m, within-same (low q) (high q) (toPosition (backupValue q)) l h) (percent-round-trip (backupValue q))
+  -- an override is accepted, and its percent is that of the tool's value that it leaves
+  pub percent-overridden : p ≤ 100 → (let o = stepOf d (percentTo d p Kind.override) in (o .answer ≡ Done) × (toPercent (o .drive .commands .toolpos) ≡ p))
+  unfolding applied obeyed commanded
+  percent-overridden h = rw (step-accepted d (percentTo d p 1) (percent-taken 1 h (omega arith))) (refl, percent-round-trip p)
 
--- a drive that stands where a percent leads is read at that percent
-pub percent-read : (d : Drive) (p : ℕ) → wellFormed d ≡ true → d .position ≡ toPosition p
-    → stepOf d (bytesOf (event Kind.readPosition 0 0 0)) ≡ outcome d (At (toPosition p) p (statusOf d))
-unfolding stepOf refusalOf refusal recordRefusal dataRefusal formOf stateRefusal applied
-percent-read d p w e = rw (w, e, percent-round-trip p)
+  -- a drive that stands where a percent leads is read at that percent
+  pub percent-read : d .position ≡ toPosition p → stepOf d (bytesOf (event Kind.readPosition 0 0 0)) ≡ outcome d (At (toPosition p) p (statusOf d))
+  unfolding stepOf refusalOf refusal recordRefusal dataRefusal formOf stateRefusal applied
+  percent-read e = rw (formed, e, percent-round-trip p)
+
+-- with BackupMode 0 the percent of backup's target is BackupValue, where Low and High leave it alone
+pub percent-backup : (d : Drive) → backupMode (d .params) ≡ 0
+    → low (d .params) ≤ toPosition (backupValue (d .params)) → toPosition (backupValue (d .params)) ≤ high (d .params)
+    → toPercent (targetAt d 0) ≡ backupValue (d .params)
+unfolding targetAt targets backupTarget
+percent-backup d m l h = rw (m, within-same _ _ _ l h) (percent-round-trip (backupValue (d .params)))

@@ -1,4 +1,4 @@
--- Rows of our own beside the marked ones: each fixes one reading of document 01, most of them by what the whole drive answers from
+-- Rows of our own beside the marked ones: each fixes one reading of documents 01 and 02, most of them by what the whole drive answers from
 -- fresh to a short list of event records.
 use mathlib.Core.Path.{_≡_, refl}
 use mathlib.Core.Bool.{true, false}
@@ -89,7 +89,7 @@ withLast x = drive 0 freshValues noCommands 0 noRun 0 x
 abbrev pub counts : Drive → List ℕ
 counts d = d .age ∷ d .since ∷ []
 
--- a row: what the definitions give, what document 01 says, and that they are the same
+-- a row: what the definitions give, what the documents say, and that they are the same
 pub record Row : Type 0 where
   pub got : Seen
   pub want : Seen
@@ -188,7 +188,10 @@ table =
     -- the K-th tick of a run is ruled by it, and its status shows none
     ∷ row (answers (fromFresh (write 203 128 ∷ write 117 1 ∷ setpoint 0 ∷ calibration ∷ tick ∷ tick ∷ tick ∷ [])))
     (answers (Done ∷ Done ∷ Done ∷ Done ∷ Report 0 4 0 4 ∷ Report 0 4 0 0 ∷ Tick 0 1 0 ∷ [])) refl
-    -- ActPosCOV 20: from the last reported position 50 is no change, 51 is, up and down
+    -- ActPosCOV 2: a distance of 5 from the last reported position, which is 2 % as a position, is no change, 6 is
+    ∷ row (answers (quick (write 116 2 ∷ setpoint 0 ∷ tick ∷ setpoint 5 ∷ tick ∷ setpoint 6 ∷ tick ∷ [])))
+    (answers (Done ∷ Done ∷ Report 0 1 0 0 ∷ Done ∷ Tick 5 1 1 ∷ Done ∷ Report 6 1 1 0 ∷ [])) refl
+    -- ActPosCOV 20: a distance of 50 from the last reported position is no change, 51 is, up and down
     ∷ row (answers (quick (write 116 20 ∷ setpoint 0 ∷ tick ∷ setpoint 50 ∷ tick ∷ setpoint 51 ∷ tick ∷ setpoint 0 ∷ tick ∷ [])))
     (answers (Done ∷ Done ∷ Report 0 1 0 0 ∷ Done ∷ Tick 50 1 1 ∷ Done ∷ Report 51 1 1 0 ∷ Done ∷ Report 0 1 2 0 ∷ [])) refl
     -- a status that differs is reported, the same one not again
@@ -203,20 +206,6 @@ table =
     -- a read is no report
     ∷ row (answers (quick (setpoint 100 ∷ tick ∷ hand 1 100 ∷ position ∷ tick ∷ [])))
     (answers (Done ∷ Report 100 1 1 0 ∷ Done ∷ At 100 39 2 ∷ Report 100 3 0 2 ∷ [])) refl
-    -- ActPosCOV 2, which is 5.1: from the last reported position 5 is no change, though 2 % is position 5; 6 is
-    ∷ row (answers (quick (write 116 2 ∷ setpoint 0 ∷ tick ∷ setpoint 5 ∷ tick ∷ setpoint 6 ∷ tick ∷ [])))
-    (answers (Done ∷ Done ∷ Report 0 1 0 0 ∷ Done ∷ Tick 5 1 1 ∷ Done ∷ Report 6 1 1 0 ∷ [])) refl
-    -- Document 02, W-202:
-    -- halves down: 10, 30, 50, 70 and 90 % are 25.5, 76.5, 127.5, 178.5 and 229.5
-    ∷ row (numbers (map toPosition (10 ∷ 30 ∷ 50 ∷ 70 ∷ 90 ∷ []))) (numbers (25 ∷ 76 ∷ 127 ∷ 178 ∷ 229 ∷ [])) refl
-    -- position 0, 1, 2, 3, 127, 128, 254, 255 in percent
-    ∷ row (numbers (map toPercent (0 ∷ 1 ∷ 2 ∷ 3 ∷ 127 ∷ 128 ∷ 254 ∷ 255 ∷ []))) (numbers (0 ∷ 0 ∷ 1 ∷ 1 ∷ 50 ∷ 50 ∷ 100 ∷ 100 ∷ [])) refl
-    -- 1 % by a normal write, by an override and as BackupValue: the damper goes to 3 and reads back 1 %
-    ∷ row (answers (quick (lte 51 1 0 ∷ tick ∷ position ∷ []))) (answers (Done ∷ Report 3 1 1 0 ∷ At 3 1 0 ∷ [])) refl
-    ∷ row (answers (quick (lte 51 1 1 ∷ tick ∷ position ∷ []))) (answers (Done ∷ Report 3 2 1 34 ∷ At 3 1 34 ∷ [])) refl
-    ∷ row (answers (quick (write 121 1 ∷ tick ∷ position ∷ []))) (answers (Done ∷ Report 3 0 1 32 ∷ At 3 1 32 ∷ [])) refl
-    -- the printed session
-    ∷ row (answers (fromFresh (setpoint 128 ∷ tick ∷ bytes 6 2 0 0 ∷ position ∷ []))) (answers (Done ∷ Tick 5 1 1 ∷ No 6 ∷ At 5 2 0 ∷ [])) refl
     -- Status bits:
     -- bit 5 without a setpoint, none with one
     ∷ row (answers (fromFresh (position ∷ setpoint 0 ∷ position ∷ []))) (answers (At 0 0 32 ∷ Done ∷ At 0 0 0 ∷ [])) refl
@@ -415,4 +404,15 @@ table =
     -- 2 before 4; refused, it writes none
     ∷ row (numbers (writeRefusal (1 ∷ 2 ∷ 3 ∷ 4 ∷ 5 ∷ []) (event 12 0 0 0) ∷ writtenTo (1 ∷ 2 ∷ 3 ∷ 4 ∷ 5 ∷ []) (event 1 0 0 0)))
     (numbers (2 ∷ 1 ∷ 2 ∷ 3 ∷ 4 ∷ 5 ∷ [])) refl
+    -- Document 02, W-202:
+    -- halves down: 10, 30, 50, 70 and 90 % are 25.5, 76.5, 127.5, 178.5 and 229.5
+    ∷ row (numbers (map toPosition (10 ∷ 30 ∷ 50 ∷ 70 ∷ 90 ∷ []))) (numbers (25 ∷ 76 ∷ 127 ∷ 178 ∷ 229 ∷ [])) refl
+    -- position 0, 1, 2, 3, 127, 128, 254, 255 in percent
+    ∷ row (numbers (map toPercent (0 ∷ 1 ∷ 2 ∷ 3 ∷ 127 ∷ 128 ∷ 254 ∷ 255 ∷ []))) (numbers (0 ∷ 0 ∷ 1 ∷ 1 ∷ 50 ∷ 50 ∷ 100 ∷ 100 ∷ [])) refl
+    -- 1 % by a normal write, by an override and as BackupValue: the damper goes to 3 and reads back 1 %
+    ∷ row (answers (quick (lte 51 1 0 ∷ tick ∷ position ∷ []))) (answers (Done ∷ Report 3 1 1 0 ∷ At 3 1 0 ∷ [])) refl
+    ∷ row (answers (quick (lte 51 1 1 ∷ tick ∷ position ∷ []))) (answers (Done ∷ Report 3 2 1 34 ∷ At 3 1 34 ∷ [])) refl
+    ∷ row (answers (quick (write 121 1 ∷ tick ∷ position ∷ []))) (answers (Done ∷ Report 3 0 1 32 ∷ At 3 1 32 ∷ [])) refl
+    -- the printed session
+    ∷ row (answers (fromFresh (setpoint 128 ∷ tick ∷ bytes 6 2 0 0 ∷ position ∷ []))) (answers (Done ∷ Tick 5 1 1 ∷ No 6 ∷ At 5 2 0 ∷ [])) refl
     ∷ []

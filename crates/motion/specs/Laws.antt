@@ -9,17 +9,17 @@ use Rattle.numbers.specs.Numbers.{distance}
 use Rattle.numbers.specs.Laws.{cases}
 use Rattle.motion.specs.Motion as M
 
--- Document 02, W-202: "so 50 % stays 127 and 1 % becomes 3"
-pub percent-named : (M.toPosition 50 ≡ 127) × (M.toPosition 1 ≡ 3)
+-- Document 02, W-202: "so 50 % stays 127 and 1 % becomes 3"; 50 % lies half way from 127 to 128
+pub percent-named : (M.toPosition 50 ≡ 127) × (M.toPosition 1 ≡ 3) × (distance (100 * 127) (255 * 50) ≡ distance (100 * 128) (255 * 50))
 unfolding M.toPosition
-percent-named = (refl, refl)
+percent-named = (refl, refl, refl)
 
--- "0 % is 0, 100 % is 255", and back
+-- Document 01: "0 % is 0, 100 % is 255"; and back
 pub percent-ends : (M.toPosition 0 ≡ 0) × (M.toPosition 100 ≡ 255) × (M.toPercent 0 ≡ 0) × (M.toPercent 255 ≡ 100)
 unfolding M.toPosition M.toPercent
 percent-ends = (refl, refl, refl, refl)
 
--- "the nearest position, halves down": `p` percent are 255 p / 100 of a position. No position is nearer, and none that is as near is lower.
+-- W-202: "the nearest position, halves down". `p` percent are position 255 p / 100: no position is nearer, and none that is as near is lower.
 module _ (p q : ℕ) where
   pub to-position-nearest : distance (100 * M.toPosition p) (255 * p) ≤ distance (100 * q) (255 * p)
   unfolding M.toPosition
@@ -35,8 +35,7 @@ module _ (p q : ℕ) where
   unfolding M.toPosition
   to-position-lower e = omega arith
 
--- "the nearest percent": position `p` is 100 p / 255 percent. A percent that is as near is the same: no other is nearer, and there are no
--- halves.
+-- "the nearest percent". Position `p` is 100 p / 255 percent: a percent that is as near or nearer is the same, so that there are no halves.
 pub to-percent-nearest : (p q : ℕ) → distance (255 * q) (100 * p) ≤ distance (255 * M.toPercent p) (100 * p) → q ≡ M.toPercent p
 unfolding M.toPercent
 to-percent-nearest p q h = omega arith

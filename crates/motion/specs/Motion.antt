@@ -7,11 +7,11 @@ use Rattle.numbers.specs.Numbers.{pick, distance}
 unfoldable pub toPosition : ℕ → ℕ
 toPosition p = (510 * p + 99) / 200
 
--- "A position becomes the nearest percent."
+-- W-202: "A position becomes the nearest percent."
 unfoldable pub toPercent : ℕ → ℕ
 toPercent p = (200 * p + 255) / 510
 
--- "K = 255 divided by Rate, rounded up."
+-- Document 01: "K = 255 divided by Rate, rounded up."
 unfoldable pub runTicks : ℕ → ℕ
 runTicks rate = (255 + (rate - 1)) / rate
 

@@ -1,4 +1,4 @@
--- Demand 2 refuses these drives, each by an answer that is not that of document 01's drive. First 01's idlers; then those that only
+-- Demand 2 refuses these drives, each by an answer that is not that of the right drive. First 01's idlers; then those that only
 -- demand 2 refuses: of an answer the claim takes the report and the number of the refusal, and looks at nothing else.
 use mathlib.Core.Path.{_≡_, refl, sym, ap, _∙_}
 use mathlib.Core.Bool.{Bool, true, not, _&&_, false≢true}
@@ -54,7 +54,7 @@ same a b = eqb (wordOf a) (wordOf b) && eqb (codeOf a) (codeOf b)
 differs-by : (a b : Answer) → not (same a b) ≡ true → a ≡ b → ⊥
 differs-by a b q e = false≢true (sym (not-true _ q) ∙ and-intro (eq-eqb _ _ (ap wordOf e)) (eq-eqb _ _ (ap codeOf e)))
 
--- Each answers its record otherwise than document 01's drive.
+-- Each answers its record otherwise than the right drive.
 pub differs : Each Differs table
 unfolding computation
 differs =

@@ -116,11 +116,6 @@ refusedRefreshes d s =
 abbrev pub writeReleases : Step
 writeReleases = only Kind.lteSetpoint (λ d e. let m = obeyed d e in done (pick (eqb (e .c) Kind.normal) (withTool m 0 0) m))
 
--- rounds the percent of a normal write down; `move`: 1 %, a tick
-abbrev pub writesRoundedDown : Step
-writesRoundedDown =
-    only Kind.lteSetpoint (λ d e. done (pick (eqb (e .c) Kind.normal) (withSetpoint d (255 * e .b / 100)) (obeyed d e)))
-
 -- counts a read as a report; `waiting`: MinRepTime 1, a read, a tick
 abbrev pub readCounts : Step
 readCounts = only Kind.readPosition (λ d e. outcome (reported d) (At (d .position) (toPercent (d .position)) (statusOf d)))
@@ -143,6 +138,11 @@ backupEarly =
     let a = aged d in
     let bus = on (a .commands .stored) && ltb (a .age) (timeout (a .params)) in
     withPosition m (moved a (rulingRank (activeByte (a .commands) (a .run .kind) bus)) .position))
+
+-- rounds the percent of a normal write down; `move`: a normal write of 1 %, a tick
+abbrev pub writesRoundedDown : Step
+writesRoundedDown =
+    only Kind.lteSetpoint (λ d e. done (pick (eqb (e .c) Kind.normal) (withSetpoint d (255 * e .b / 100)) (obeyed d e)))
 
 -- closes the damper at a restart; `others`: a setpoint, a tick, a restart
 abbrev pub restartCloses : Step
