@@ -37,17 +37,20 @@ module _ (d : Drive) (p : ℕ) (formed : wellFormed d ≡ true) where
       simp (formed, le-leb _ _ l, le-leb _ _ u, le-ltb 100 p h, le-ltb 2 c (omega arith), le-leb _ _ k, eq-eqb (50 + m) (50 + m) refl)
 
   -- a normal write is accepted, and its percent is that of the setpoint that it leaves
-  pub percent-written : p ≤ 100 → (let o = stepOf d (percentTo d p Kind.normal) in (o .answer ≡ Done) × (toPercent (o .drive .commands .setpoint) ≡ p))
+  pub percent-written : p ≤ 100
+      → (let o = stepOf d (percentTo d p Kind.normal) in (o .answer ≡ Done) × (toPercent (o .drive .commands .setpoint) ≡ p))
   unfolding applied obeyed commanded
   percent-written h = rw (step-accepted d (percentTo d p 0) (percent-taken 0 h (omega arith))) (refl, percent-round-trip p)
 
   -- an override is accepted, and its percent is that of the tool's value that it leaves
-  pub percent-overridden : p ≤ 100 → (let o = stepOf d (percentTo d p Kind.override) in (o .answer ≡ Done) × (toPercent (o .drive .commands .toolpos) ≡ p))
+  pub percent-overridden : p ≤ 100
+      → (let o = stepOf d (percentTo d p Kind.override) in (o .answer ≡ Done) × (toPercent (o .drive .commands .toolpos) ≡ p))
   unfolding applied obeyed commanded
   percent-overridden h = rw (step-accepted d (percentTo d p 1) (percent-taken 1 h (omega arith))) (refl, percent-round-trip p)
 
   -- a drive that stands where a percent leads is read at that percent
-  pub percent-read : d .position ≡ toPosition p → stepOf d (bytesOf (event Kind.readPosition 0 0 0)) ≡ outcome d (At (toPosition p) p (statusOf d))
+  pub percent-read : d .position ≡ toPosition p
+      → stepOf d (bytesOf (event Kind.readPosition 0 0 0)) ≡ outcome d (At (toPosition p) p (statusOf d))
   unfolding stepOf refusalOf refusal recordRefusal dataRefusal formOf stateRefusal applied
   percent-read e = rw (formed, e, percent-round-trip p)
 

@@ -1,5 +1,5 @@
-//! The proved damper drive of documents 01 and 02, alone and in a hall, for hosts in Rust. The drive itself is in
-//! the archives `libhost.a` and `libhost_replay.a`, the calls on a hall of drives in `libhall_event.a` and
+//! The proved damper drive of documents 01 and 02, alone and in a hall, for hosts in Rust. The drive itself is
+//! in the archives `libhost.a` and `libhost_replay.a`, the calls on a hall of drives in `libhall_event.a` and
 //! `libhall_tick.a`, written and proved in Rattle; this crate gives their numbers types and decides nothing.
 //!
 //! Cargo links them from the folder that the environment variable DAMPER_ARCHIVES names, or from the
