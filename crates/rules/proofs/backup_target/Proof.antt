@@ -1,4 +1,5 @@
 use Rattle.rules.specs.Rank.{backupTarget}
+use mathlib.Core.Path.{refl}
 use borrow.Author.Tests.{eq-eqb, ne-eqb}
 use borrow.Author.Needs.{needs}
 use Rattle.rules.proofs.backup_target.Statement.{statement}
@@ -6,7 +7,7 @@ use Rattle.rules.proofs.backup_target.Tie as tie
 
 returns : tie.Need-returns
 unfolding backupTarget
-returns c = simp (eq-eqb _ _ (c .before .before .if1 .taken), c .limited .ensures, c .before .to-position .ensures)
+returns c = simp (eq-eqb _ _ (c .before .before .if1 .taken), c .limited .ensures, c .before .to-position .ensures) refl
 
 returns-2 : tie.Need-returns-2
 unfolding backupTarget

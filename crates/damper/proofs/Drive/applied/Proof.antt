@@ -1,4 +1,5 @@
 use Rattle.damper.specs.Step.{applied, obeyed}
+use mathlib.Core.Path.{refl}
 use borrow.Author.Tests.{ltb-true, ne-eqb}
 use Rattle.event.specs.Laws.{known-read, known-write, percent-most}
 use borrow.Author.Needs.{needs}
@@ -17,7 +18,7 @@ with-param-requires c κs = rw (c .before .place-of .ensures) (ltb-true _ _ (kno
 
 returns-2 : tie.Need-returns-2
 unfolding applied obeyed
-returns-2 c = rw (c .before .before .match .keys9) (simp (c .status .ensures, c .before .to-percent .ensures))
+returns-2 c = rw (c .before .before .match .keys9) (simp (c .status .ensures, c .before .to-percent .ensures) refl)
 
 parameter-requires : tie.Need-parameter-requires
 parameter-requires c κs = known-read (c .before .args .e) (c .before .pre .1 .1) (c .match .keys10)

@@ -1,4 +1,5 @@
 use Rattle.damper.specs.Step.{commanded}
+use mathlib.Core.Path.{refl}
 use native.Mathlib.Omega.{arith}
 use borrow.Author.Tests.{eq-eqb, ne-eqb}
 use borrow.Author.Needs.{needs}
@@ -13,11 +14,11 @@ to-position-requires-2 c κs = c .before .before .pre (omega arith)
 
 returns : tie.Need-returns
 unfolding commanded
-returns c = simp (eq-eqb _ _ (c .before .before .if1 .taken), c .with-setpoint .ensures, c .before .to-position .ensures)
+returns c = simp (eq-eqb _ _ (c .before .before .if1 .taken), c .with-setpoint .ensures, c .before .to-position .ensures) refl
 
 returns-2 : tie.Need-returns-2
 unfolding commanded
-returns-2 c = simp (ne-eqb _ _ (c .before .before .before .if1 .left), eq-eqb _ _ (c .before .before .if2 .taken), c .with-tool .ensures, c .before .to-position2 .ensures)
+returns-2 c = simp (ne-eqb _ _ (c .before .before .before .if1 .left), eq-eqb _ _ (c .before .before .if2 .taken), c .with-tool .ensures, c .before .to-position2 .ensures) refl
 
 returns-3 : tie.Need-returns-3
 unfolding commanded
