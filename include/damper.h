@@ -1,7 +1,7 @@
 /*
  * The air-damper drive of document 01 (after KNX chapter 7/10/3, block ADA), written and proved in Rattle, for hosts in
- * C11 and C++ on x86-64 Linux. Link libhost.a for single events, libhost_replay.a for damper_replay, libhall_event.a and
- * libhall_tick.a for the two calls of a hall, or any of these together: none needs another.
+ * C11 and C++ on x86-64 Linux. Link libhost.a for single events, libhost_replay.a for damper_replay, libhall_event.a,
+ * libhall_tick.a and libhall_page.a for the three calls of a hall, or any of these together: none needs another.
  *
  * A drive is a record of 44 bytes, and the host holds it. The host gives it event records of six bytes, one after the
  * other: a tick each second, and setpoints, forcing, hand, calibration, faults, parameter writes, restarts and reads as
@@ -16,7 +16,8 @@
  *         printf("position %u\n", damper_answer_position(s.word, s.code));
  *
  * A host of a hall holds up to 64 records in one row and lends it: damper_hall_event gives an event to the drives that a
- * list names, damper_hall_tick ticks them all, and the records are changed where they are.
+ * list names, damper_hall_tick ticks them all, and the records are changed where they are. damper_hall_page only reads them:
+ * it writes the shift page, a printed line for each drive.
  *
  * Of every function below holds:
  *   - A pointer is valid for its length; NULL will do for a length of 0. Bytes that are written to overlap no others that
@@ -27,8 +28,8 @@
  *     may call it at any time.
  *   - It takes at most DAMPER_STACK bytes of stack below the caller's frame, the red zone of the x86-64 ABI among them.
  *
- * Numbers are document 01's, those of a hall request W-201's, percents request W-202's. A position is 0 to 255, where 255 is
- * 100 %; a time is in ticks of a second.
+ * Numbers are document 01's, those of a hall request W-201's, percents request W-202's, those of the shift page W-203's. A
+ * position is 0 to 255, where 255 is 100 %; a time is in ticks of a second.
  */
 #ifndef DAMPER_H
 #define DAMPER_H
@@ -46,6 +47,7 @@ extern "C" {
 #define DAMPER_PARAMETERS 12  /* how many there are */
 #define DAMPER_STACK 512      /* bytes of stack that a call takes at most */
 #define DAMPER_HALL_MOST 64   /* drives of a hall, and entries of a list, at most */
+#define DAMPER_HALL_LINE 29   /* bytes of a drive's line on the shift page, the line feed among them */
 
 /* An event record: these two bytes, the kind, then data bytes a, b and c, of which unused ones are 0. */
 #define DAMPER_MARK_0 0x5A
@@ -197,7 +199,8 @@ enum damper_refusal {
 enum damper_hall_refusal {
     DAMPER_HALL_REFUSAL_ROW = 14,    /* the row has no drive, or over DAMPER_HALL_MOST */
     DAMPER_HALL_REFUSAL_NUMBER = 15, /* a number of the list is not below the row's length */
-    DAMPER_HALL_REFUSAL_CALL = 16    /* an accepted tick, a list over DAMPER_HALL_MOST, or too few places for the answers */
+    DAMPER_HALL_REFUSAL_CALL = 16,   /* an accepted tick, a list over DAMPER_HALL_MOST, or too few places for the answers */
+    DAMPER_HALL_REFUSAL_PAGE = 17    /* the page has fewer than DAMPER_HALL_LINE bytes for each drive */
 };
 
 /* What damper_hall_tick says of a drive: one of the first two, or the third + 256 * position + status. */
@@ -364,6 +367,26 @@ uint8_t damper_hall_event(damper_drive *row, size_t drives, const uint32_t *list
  * as they are.
  */
 uint8_t damper_hall_tick(damper_drive *row, size_t drives, uint32_t *numbers, size_t places);
+
+/*
+ * libhall_page.a
+ */
+
+/*
+ * Writes the shift page, a line of 28 columns and a line feed for each drive of the row, in its order, and gives 0. The line
+ * has the drive's number, its position and its percent, to the right in 2, 3 and 3 columns; who rules, to the left in 8; and
+ * the status, the highest bit first, in 8; a blank between two of these:
+ *
+ *      0 128  50 bus      00000000
+ *
+ * Who rules is fault, forced, run, hand, tool, bus or backup, and that and the status are of the record as it is, so a setpoint
+ * that the next tick ends still rules. A record that is not well formed shows its number, and minus signs in all other columns
+ * but the blanks. Bytes of the page behind the last line stay as they are, and every record does.
+ *
+ * The call is turned down by 14 if drives is 0 or over 64, otherwise by 17 if the page has fewer than 29 bytes for each drive,
+ * and then the page stays as it is.
+ */
+uint8_t damper_hall_page(const damper_drive *row, size_t drives, uint8_t *page, size_t bytes);
 
 /*
  * An answer taken apart. Each function says for which words it holds, and gives 0 for the others.

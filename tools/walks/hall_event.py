@@ -78,7 +78,7 @@ def start():
     walk.call(o, c, "Count", [("m", "is-m .1"), ("(length xs)", "room₁ .0")], [5, 10], 6, "v′", "n", "counts", " m")
     o("let w : Turned-by n = give-turns (length ys) (length cs) bs xs n (counts ∙ ap (λ (j : ℕ). pick′ (eqb j 0) (length xs) 0) judged) in")
     o("let listed : n ≤ length xs = subst (λ (j : ℕ). j ≤ length xs) (sym counts) (turns-most (eqb m 0) (length xs)) in")
-    walk.open(o, c, 7, {ROW: "(row-start stepOf ys call′ cs)", ANSWERS: "(answers-start stepOf ys call′ cs)"}, "n w listed m judged (is-m .1)")
+    walk.open(o, c, [7], {ROW: "(row-start stepOf ys call′ cs)", ANSWERS: "(answers-start stepOf ys call′ cs)"}, "n w listed m judged (is-m .1)")
     return o.text()
 
 

@@ -70,7 +70,7 @@ def start():
     walk.length(o, c, ROW, 7, again=True)
     walk.call(o, c, "Count", [("m", "is-m .1"), ("(length ys)", "room₀ .0")], [3, 7], 4, "v′", "n", "counts", " m")
     o("let w : Turned-by n = tick-turns (length ys) (length ws) n (counts ∙ ap (λ (j : ℕ). pick′ (eqb j 0) (length ys) 0) judged) in")
-    walk.open(o, c, 5, {ROW: "(row-start stepOf ys call′ ws)", NUMBERS: "(answers-start stepOf ys call′ ws)"}, "n w m judged (is-m .1)")
+    walk.open(o, c, [5], {ROW: "(row-start stepOf ys call′ ws)", NUMBERS: "(answers-start stepOf ys call′ ws)"}, "n w m judged (is-m .1)")
     return o.text()
 
 

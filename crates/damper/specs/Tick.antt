@@ -6,7 +6,7 @@ use lib.ListN.{getD}
 use Rattle.numbers.specs.Numbers.{pick, on, next}
 use Rattle.table.specs.Table.{openCloseDirection, actPosCov, minRepTime, timeout, repPer, rate}
 use Rattle.motion.specs.Motion.{toward, motor}
-use Rattle.rules.specs.Rank.{busActive, activeByte, rulingRank, targets}
+use Rattle.rules.specs.Rank.{Source, sourceAt, busActive, activeByte, rulingRank, targets}
 use Rattle.rules.specs.Report.{status, changed}
 use Rattle.damper.specs.declared.Run.{Run}
 use Rattle.damper.specs.declared.Drive.{Drive}
@@ -24,6 +24,10 @@ busOn d = busActive (d .commands) (d .age) (timeout (d .params))
 -- the ruling rank of the record as it is
 abbrev pub ruling : Drive → ℕ
 ruling d = rulingRank (activeByte (d .commands) (d .run .kind) (busOn d))
+
+-- the commander at that rank
+abbrev pub commander : Drive → Source
+commander d = sourceAt (ruling d)
 
 -- the target at a rank
 unfoldable pub targetAt : Drive → ℕ → ℕ

@@ -54,12 +54,15 @@ given-fits n list s room e =
     let most = or-right (isTick s) _ (or-left (isTick s || ltb 64 (length list)) _ m) in
     (good-at n list (u .0), ltb-false 64 _ most, ltb-false room _ (or-right (isTick s || ltb 64 (length list)) _ m))
 
+pub row-few : (n : ℕ) → badRow n ≡ false → n ≤ 64
+row-few n e = ltb-false 64 n (or-right (ltb n 1) _ e)
+
 ticked-fits : (n room : ℕ) → callRefusal n (tick room) ≡ 0 → (n ≤ 64) × (n ≤ room)
 unfolding callRefusal
 ticked-fits n room e =
     let r = passed (badRow n) 14 _ e (omega arith) in
     let m = passed (ltb room n) 16 _ (r .1) (omega arith) in
-    (ltb-false 64 n (or-right (ltb n 1) _ (r .0)), ltb-false room n (m .0))
+    (row-few n (r .0), ltb-false room n (m .0))
 
 -- The turns of a call, by their number and each by its place.
 

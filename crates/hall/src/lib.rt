@@ -50,7 +50,7 @@ fn is_tick(s: &[u8]) -> bool
 }
 
 // Whether a row of drives is empty or too long.
-fn bad_row(drives: usize) -> bool
+pub fn bad_row(drives: usize) -> bool
     ensures { λ r. ⌜ r ≡ badRow drives ⌝ }
 {
     (drives < 1) | (MOST < drives)

@@ -10,6 +10,7 @@ use lib.Dec.{ltb}
 use borrow.Author.Tests.{lt-ltb, le-ltb, ltb-true, ltb-false}
 use lib.ListN.{length, take, drop, set, length-append}
 use lib.Seq.{length-take-le, take-at, drop-at, drop-drop, set-split}
+use Rattle.numbers.specs.Laws.{cases}
 use Rattle.answer.specs.declared.Answer.the-variants.{No, Done, Par, At, Tick, Report}
 use Rattle.line.specs.Line as L
 
@@ -86,15 +87,22 @@ pub decimal-more : (n : ℕ) → 10 ≤ n → L.decimal n ≡ L.decimal (n / 10)
 unfolding L.decimal L.digitsWithin
 decimal-more n h = rw (le-ltb n 10 h) (rw (within-any n (suc (n / 10)) (n / 10) (omega arith) (omega arith)))
 
+-- how many digits there are
+pub digits-one : (n : ℕ) → n < 10 → length (L.decimal n) ≡ 1
+digits-one n h = ap length (decimal-small n h)
+
+pub digits-more : (n : ℕ) → 10 ≤ n → length (L.decimal n) ≡ length (L.decimal (n / 10)) + 1
+digits-more n h = ap length (decimal-more n h) ∙ length-append (L.decimal (n / 10)) _
+
+pub digits-some : (n : ℕ) → 1 ≤ length (L.decimal n)
+digits-some n = cases (ltb n 10) (λ t. omega (arith, digits-one n (ltb-true n 10 t))) (λ t. omega (arith, digits-more n (ltb-false n 10 t)))
+
 -- a number below a power of ten has no more digits than the power says
 length-step : (k n : ℕ) → (10 ≤ n → length (L.decimal (n / 10)) ≤ k) → length (L.decimal n) ≤ suc k
-length-step k n e = go (ltb n 10) refl
-  where
-    go : (t : Bool) → ltb n 10 ≡ t → length (L.decimal n) ≤ suc k
-    go true t = rw (decimal-small n (ltb-true n 10 t)) (omega arith)
-    go false t =
-        let h : 10 ≤ n = ltb-false n 10 t in
-        rw (decimal-more n h, length-append) (omega (arith, e h))
+length-step k n e =
+    cases (ltb n 10)
+    (λ t. omega (arith, digits-one n (ltb-true n 10 t)))
+    (λ t. let h : 10 ≤ n = ltb-false n 10 t in omega (arith, digits-more n h, e h))
 
 pub decimal-length : (k n : ℕ) → n < 10 ^ k → 1 ≤ k → length (L.decimal n) ≤ k
 decimal-length zero n h l = absurd (omega arith)

@@ -10,7 +10,7 @@ use answer::Answer;
 // A line is written only where this many bytes are free: more than any line has.
 pub const ROOM: usize = 64;
 
-fn put_byte(out: &mut [u8], at: usize, b: u8) -> usize
+pub fn put_byte(out: &mut [u8], at: usize, b: u8) -> usize
     requires { ⌜ at < length (now out) ⌝ }
     ensures { λ r. ⌜ Written (now (out .entry)) (now (out .exit)) at r (b ∷ []) ⌝ }
 {
@@ -18,7 +18,7 @@ fn put_byte(out: &mut [u8], at: usize, b: u8) -> usize
     at + 1
 }
 
-fn put_bytes(out: &mut [u8], at: usize, s: &[u8]) -> usize
+pub fn put_bytes(out: &mut [u8], at: usize, s: &[u8]) -> usize
     requires { ⌜ at + length (now s) ≤ length (now out) ⌝ }
     ensures { λ r. ⌜ Written (now (out .entry)) (now (out .exit)) at r (now (s .entry)) ⌝ }
 {
@@ -30,8 +30,18 @@ fn put_bytes(out: &mut [u8], at: usize, s: &[u8]) -> usize
     at + i
 }
 
+// How many digits a byte has in decimal.
+pub fn digits(n: u8) -> usize
+    ensures { λ r. ⌜ r ≡ length (decimal n) ⌝ }
+{
+    if n < 10 {
+        return 1;
+    }
+    if n < 100 { 2 } else { 3 }
+}
+
 // A number in decimal.
-fn put_decimal(out: &mut [u8], at: usize, n: u64) -> usize
+pub fn put_decimal(out: &mut [u8], at: usize, n: u64) -> usize
     requires { ⌜ at + length (decimal n) ≤ length (now out) ⌝ }
     ensures { λ r. ⌜ Written (now (out .entry)) (now (out .exit)) at r (decimal n) ⌝ }
 {

@@ -4,6 +4,7 @@ use mathlib.Core.List.{List, [], _∷_, map}
 use Prim.Native.Nat.{ℕ, _+_, _-_, _*_}
 use lib.Dec.{leb, eqb}
 use lib.Count.{leadingZeros}
+use lib.ListN.{getD}
 use Rattle.numbers.specs.Numbers.{pick, on, bit}
 use Rattle.table.specs.Table.{backupMode, backupValue, low, high}
 use Rattle.motion.specs.Motion.{toPosition, within}
@@ -22,6 +23,10 @@ pub data Source : Type 0 where
 -- "Ranks: 6 fault, 5 forcing, 4 run, 3 hand, 2 tool, 1 bus, 0 backup." The one order, from rank 0 on (document 01: rank).
 abbrev pub ranking : List Source
 ranking = backup ∷ bus ∷ tool ∷ hand ∷ run ∷ forcing ∷ fault ∷ []
+
+-- the source at a rank
+abbrev pub sourceAt : ℕ → Source
+sourceAt rank = getD ranking rank backup
 
 -- a run (document 01: run) as a number: 0 none, 1 calibration, 2 sync close, 3 sync open
 abbrev pub running : ℕ → Bool

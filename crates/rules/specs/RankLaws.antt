@@ -5,7 +5,6 @@ use mathlib.Core.List.{List, [], _∷_, map}
 use Prim.Native.Nat.{ℕ, suc, _+_, _^_, _<_, _≤_}
 use native.Mathlib.Omega.{arith}
 use native.Mathlib.Nat.{lt-of-lt-of-le, lt-of-not-le, not-le-of-lt, le-trans}
-use lib.ListN.{getD}
 use lib.Pow.{pow-mono, pow-pos}
 use lib.Count.{leadingZeros, leading-top}
 use Rattle.numbers.specs.Numbers.{pick, on, bit}
@@ -65,7 +64,7 @@ rankOf R.bus = 1
 rankOf R.backup = 0
 
 -- each source stands in the ranking at its rank
-pub ranked : (s : R.Source) → getD R.ranking (rankOf s) R.backup ≡ s
+pub ranked : (s : R.Source) → R.sourceAt (rankOf s) ≡ s
 ranked R.fault = refl
 ranked R.forcing = refl
 ranked R.run = refl
@@ -82,7 +81,7 @@ module _ (c : Commands) (r : ℕ) (b : Bool) where
   ruling-is = chain b (on (c .tool)) (on (c .hand)) (R.running r) (R.forced (c .forcing)) (on (c .fault))
 
   -- the source at the ruling rank is active
-  pub ruling-active : R.activeOf c r b (getD R.ranking (R.rulingRank (R.activeByte c r b)) R.backup) ≡ true
+  pub ruling-active : R.activeOf c r b (R.sourceAt (R.rulingRank (R.activeByte c r b))) ≡ true
   ruling-active =
       rw ruling-is
       (pick-elim Active (on (c .fault)) (λ e. e)
@@ -93,7 +92,7 @@ module _ (c : Commands) (r : ℕ) (b : Bool) where
       (λ e1. pick-elim Active b (λ e. e) (λ e0. refl)))))))
     where
       Active : ℕ → Type 0
-      Active k = R.activeOf c r b (getD R.ranking k R.backup) ≡ true
+      Active k = R.activeOf c r b (R.sourceAt k) ≡ true
 
   -- an active source's bit is set
   byte-has : (s : R.Source) → R.activeOf c r b s ≡ true → 2 ^ rankOf s ≤ R.activeByte c r b

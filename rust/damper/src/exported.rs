@@ -69,6 +69,11 @@ extern "C" {
     fn damper_hall_tick(row: *mut Drive, drives: usize, numbers: *mut u32, places: usize) -> u8;
 }
 
+// libhall_page.a
+extern "C" {
+    fn damper_hall_page(row: *const Drive, drives: usize, page: *mut u8, bytes: usize) -> u8;
+}
+
 const _: () = {
     assert!(size_of::<Drive>() == 44 && align_of::<Drive>() == 2);
     assert!(size_of::<Commands>() == 8);
@@ -180,4 +185,11 @@ pub fn hall_tick(row: &mut [Drive], numbers: &mut [u32]) -> u8 {
     // SAFETY: each pointer goes with the length of its slice, and two that are lent mutably do not overlap;
     // any bytes are a `Drive`.
     unsafe { damper_hall_tick(row.as_mut_ptr(), row.len(), numbers.as_mut_ptr(), numbers.len()) }
+}
+
+#[inline]
+pub fn hall_page(row: &[Drive], page: &mut [u8]) -> u8 {
+    // SAFETY: each pointer goes with the length of its slice, and one that is lent mutably overlaps no other;
+    // any bytes are a `Drive`.
+    unsafe { damper_hall_page(row.as_ptr(), row.len(), page.as_mut_ptr(), page.len()) }
 }

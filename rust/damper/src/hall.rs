@@ -1,4 +1,4 @@
-//! A hall: 1 to 64 drives in one row, worked on where they stand. Document 02, W-201.
+//! A hall: 1 to 64 drives in one row, worked on where they stand. Document 02, W-201; the shift page is its W-203.
 
 use crate::{exported, Drive, Refusal, Status};
 use core::error::Error;
@@ -6,6 +6,9 @@ use core::fmt;
 
 /// The most drives of a hall, and the most entries of a list.
 pub const HALL_MOST: usize = 64;
+
+/// Bytes of a drive's line on the shift page: 28 columns and a line feed.
+pub const HALL_LINE: usize = 29;
 
 /// Gives an event other than a tick to the listed drives, in the list's order: any bytes, however many.
 ///
@@ -64,6 +67,36 @@ pub fn hall_tick(row: &mut [Drive], numbers: &mut [u32]) -> Result<(), HallRefus
     refused_or_done(exported::hall_tick(row, numbers))
 }
 
+/// Writes the shift page, a line of [`HALL_LINE`] bytes for each drive of the row, in its order.
+///
+/// A line has the drive's number, its position and its percent, to the right in 2, 3 and 3 columns; who rules
+/// (fault, forced, run, hand, tool, bus or backup), to the left in 8; and the status, the highest bit first, in
+/// 8. Who rules and the status are of the record as it is. A record that is not well formed shows its number,
+/// and minus signs in the other fields. Bytes behind the last line keep their content. A call that is refused
+/// writes nothing.
+///
+/// ```
+/// use damper::{hall_page, Drive, Event, HallRefusal, HALL_LINE};
+///
+/// let mut row = [Drive::fresh(); 3];
+/// row[1].give(Event::Setpoint(128));
+/// row[2].commands.forcing = 9; // not well formed
+/// let mut page = [0; 3 * HALL_LINE];
+/// assert_eq!(hall_page(&row, &mut page), Ok(()));
+/// let lines = [
+///     " 0   0   0 backup   01000000\n",
+///     " 1   0   0 bus      00000000\n",
+///     " 2 --- --- -------- --------\n",
+/// ];
+/// assert_eq!(page, lines.concat().as_bytes());
+///
+/// assert_eq!(hall_page(&row, &mut page[1..]), Err(HallRefusal::Page));
+/// ```
+#[inline]
+pub fn hall_page(row: &[Drive], page: &mut [u8]) -> Result<(), HallRefusal> {
+    refused_or_done(exported::hall_page(row, page))
+}
+
 /// 0 is no refusal.
 fn refused_or_done(number: u8) -> Result<(), HallRefusal> {
     match number {
@@ -84,13 +117,16 @@ pub enum HallRefusal {
     /// The bytes are a tick that the reader accepts, the list has over 64 entries, or there are fewer places
     /// for answers than entries of the list; for the hall tick, than drives.
     Call,
+    /// The page has fewer than [`HALL_LINE`] bytes for each drive.
+    Page,
 }
 
 impl HallRefusal {
-    /// 14 to 16.
-    pub const ALL: [HallRefusal; 3] = [HallRefusal::Row, HallRefusal::Number, HallRefusal::Call];
+    /// 14 to 17.
+    pub const ALL: [HallRefusal; 4] =
+        [HallRefusal::Row, HallRefusal::Number, HallRefusal::Call, HallRefusal::Page];
 
-    /// Document 02's number, 14 to 16.
+    /// Document 02's number, 14 to 17.
     pub const fn number(self) -> u8 {
         self as u8
     }
@@ -107,6 +143,7 @@ impl fmt::Display for HallRefusal {
             HallRefusal::Row => "the row holds no drive or over 64",
             HallRefusal::Number => "a listed drive is not in the row",
             HallRefusal::Call => "a tick by list, over 64 entries, or too few places for the answers",
+            HallRefusal::Page => "the page has fewer than 29 bytes for each drive",
         })
     }
 }

@@ -1,10 +1,11 @@
 //! The proved damper drive of documents 01 and 02, alone and in a hall, for hosts in Rust. The drive itself is
-//! in the archives `libhost.a` and `libhost_replay.a`, the calls on a hall of drives in `libhall_event.a` and
-//! `libhall_tick.a`, written and proved in Rattle; this crate gives their numbers types and decides nothing.
+//! in the archives `libhost.a` and `libhost_replay.a`, the calls on a hall of drives in `libhall_event.a`,
+//! `libhall_tick.a` and `libhall_page.a`, written and proved in Rattle; this crate gives their numbers types and
+//! decides nothing.
 //!
 //! Cargo links them from the folder that the environment variable DAMPER_ARCHIVES names, or from the
 //! repository's target/staticlib, where `rt staticlib host`, `rt staticlib host_replay`,
-//! `rt staticlib hall_event` and `rt staticlib hall_tick` write them.
+//! `rt staticlib hall_event`, `rt staticlib hall_tick` and `rt staticlib hall_page` write them.
 //!
 //! ```
 //! use damper::{Answer, Drive, Event, Parameter, Rank, Refusal};
@@ -24,7 +25,7 @@
 //! assert_eq!(Drive::restore(stored), Ok(drive));
 //! ```
 //!
-//! A hall holds up to 64 drives in one row: [`hall_event`] and [`hall_tick`].
+//! A hall holds up to 64 drives in one row: [`hall_event`], [`hall_tick`] and [`hall_page`].
 
 #![no_std]
 #![warn(missing_docs)]
@@ -43,6 +44,6 @@ mod refusal;
 pub use answer::{Answer, Motor, Rank, Status};
 pub use drive::{Commands, Drive, Last, Run};
 pub use event::{read, write, Command, Event};
-pub use hall::{hall_event, hall_tick, HallAnswer, HallRefusal, HallTick, HALL_MOST};
+pub use hall::{hall_event, hall_page, hall_tick, HallAnswer, HallRefusal, HallTick, HALL_LINE, HALL_MOST};
 pub use parameter::Parameter;
 pub use refusal::Refusal;

@@ -1,0 +1,3 @@
+-- Document 02's shift page.
+pub mod Shift
+pub mod Laws
