@@ -1,7 +1,8 @@
 /*
- * The two calls of a hall, as a C host makes them, beside the plain ones: halls of fresh, well-formed and broken drives,
- * each taken through a number of calls. After each call the number that it gives, every drive and every place of the answers
- * must agree, those before and behind what was lent among them. Each case below must be met a thousand times.
+ * The three calls of a hall, as a C host makes them, beside the plain ones: halls of fresh, well-formed and broken drives,
+ * each taken through a number of calls. After each call the number that it gives, every drive, every place of the answers and
+ * every byte of the page must agree, those before and behind what was lent among them. Each case below must be met a thousand
+ * times.
  */
 #include "compare.h"
 #include "plain.h"
@@ -10,24 +11,30 @@
 #include <stdlib.h>
 #include <string.h>
 
-#define CALLS 500000
+#define CALLS 600000
 #define LEAST 1000
 #define FRONT 2         /* places before a row */
 #define MOST_ENTRIES 70 /* of a list */
 #define ROOM (FRONT + MOST_ENTRIES + 10)
+#define PAGE_FRONT 40 /* bytes before a page */
+#define PAGE_MOST ((DAMPER_HALL_MOST + 6) * DAMPER_HALL_LINE)
+#define PAGE_ROOM (PAGE_FRONT + PAGE_MOST + 40)
 
-/* What is lent to be written to. */
+/* What is lent, to be written to but for the row of a page call. */
 typedef struct {
     damper_drive row[ROOM];
     uint8_t answers[ROOM];
     uint32_t numbers[ROOM];
+    uint8_t page[PAGE_ROOM];
 } lent;
 
 static lent proved, plain, before;
 
-/* A call: its row of drives, its list and event if it is no tick, and how many places its answers have. */
+enum { EVENT_CALL, TICK_CALL, PAGE_CALL };
+
+/* A call: its row of drives, its list and event if it has them, and how many places its answers, or bytes its page, have. */
 typedef struct {
-    bool ticks;
+    int kind;
     size_t drives, entries, places;
     uint32_t list[MOST_ENTRIES];
     event given;
@@ -67,7 +74,39 @@ typedef struct {
     of(NOT_NAMED, "drive not named")                                    \
     of(SILENT, "silent tick")                                           \
     of(REPORT, "report")                                                \
-    of(UNTICKED, "drive not well formed")
+    of(UNTICKED, "drive not well formed")                               \
+    of(PAGE_14, "page refused by 14")                                   \
+    of(PAGE_17, "by 17")                                                \
+    of(PAGE_BOTH, "by 14 where 17 fits")                                \
+    of(PAGE_NONE, "by 17 with no byte")                                 \
+    of(PAGE_LESS, "with one byte too few")                              \
+    of(PAGE_28, "with 28 bytes for each of several drives")             \
+    of(PAGE_EXACT, "page written, of just enough bytes")                \
+    of(PAGE_MORE, "of one byte more")                                   \
+    of(PAGE_LONGER, "of more still")                                    \
+    of(PAGE_OF_1, "of one drive")                                       \
+    of(PAGE_OF_64, "of 64")                                             \
+    of(PAGE_MIXED, "of drives well formed and not")                     \
+    of(LINE_BROKEN, "line of a drive not well formed")                  \
+    of(LINE_FAULT, "ruled by fault")                                    \
+    of(LINE_FORCED, "forced")                                           \
+    of(LINE_RUN, "run")                                                 \
+    of(LINE_HAND, "hand")                                               \
+    of(LINE_TOOL, "tool")                                               \
+    of(LINE_BUS, "bus")                                                 \
+    of(LINE_BACKUP, "backup")                                           \
+    of(LINE_TIMEOUT, "bus at age = Timeout")                            \
+    of(LINE_PAST, "backup at age = Timeout + 1")                        \
+    of(LINE_NUMBER_1, "number of one digit")                            \
+    of(LINE_NUMBER_2, "number of two digits")                           \
+    of(LINE_POSITION_1, "position of one digit")                        \
+    of(LINE_POSITION_2, "position of two digits")                       \
+    of(LINE_POSITION_3, "position of three digits")                     \
+    of(LINE_PERCENT_1, "percent of one digit")                          \
+    of(LINE_PERCENT_2, "percent of two digits")                         \
+    of(LINE_PERCENT_3, "percent of three digits")                       \
+    of(LINE_RAISED, "percent not the one rounded down")                 \
+    of(LINE_STATUS, "status not the last reported")
 
 #define NAME(name, text) name,
 #define TEXT(name, text) text,
@@ -76,6 +115,11 @@ enum { CASES(NAME) COUNTS };
 
 static const char *const texts[COUNTS] = {CASES(TEXT)};
 static unsigned long counts[COUNTS], answered[DAMPER_REFUSAL_CALIBRATION + 1];
+
+/* Status bits shown as 0 and as 1, from the lowest. Bits 6 and 7 of a status are 0. */
+#define BITS 8
+#define BITS_SET 6
+static unsigned long shown[2][BITS];
 
 /* A drive that events have led somewhere. */
 static damper_drive met;
@@ -110,6 +154,16 @@ static damper_drive broken(void)
     return d;
 }
 
+/* A setpoint alone, as old as Timeout or a tick older. */
+static damper_drive about_timeout(void)
+{
+    damper_drive d = well_formed();
+    d.commands = (damper_commands){.stored = 1, .setpoint = random_byte()};
+    d.age = (uint16_t)(d.params[DAMPER_PLACE_TIMEOUT] + random_below(2));
+    d.run = (damper_run){.kind = DAMPER_RUN_NONE};
+    return d;
+}
+
 /* The bytes of no field are any as well. */
 static damper_drive random_drive(void)
 {
@@ -118,6 +172,7 @@ static damper_drive random_drive(void)
     case 0:
     case 1: plain_fresh(&d); break;
     case 2: d = broken(); break;
+    case 3: d = about_timeout(); break;
     default: d = well_formed(); break;
     }
     uint8_t bytes[sizeof d];
@@ -177,6 +232,26 @@ static size_t random_places(size_t asked)
     }
 }
 
+static size_t random_bytes(size_t drives)
+{
+    size_t asked = drives * DAMPER_HALL_LINE;
+    if (drives > DAMPER_HALL_MOST && random_below(2))
+        return random_below((uint32_t)asked);
+    switch (random_below(16)) {
+    case 0: return 0;
+    case 1: return asked > 0 ? asked - 1 : 0;
+    case 2: return asked - drives; /* without the line feeds */
+    case 3: return random_below((uint32_t)asked + 1);
+    case 4:
+    case 5:
+    case 6: return asked + 1;
+    case 7:
+    case 8:
+    case 9: return asked + random_below(PAGE_MOST + 1 - (uint32_t)asked);
+    default: return asked;
+    }
+}
+
 /* One in eight is an LTE setpoint, often a wrong one: refusals 6 to 9. */
 static event random_given(void)
 {
@@ -194,9 +269,10 @@ static bool accepted_tick(const event *e)
 
 static call random_call(size_t drives)
 {
-    call c = {.ticks = random_below(3) == 0, .drives = drives};
-    if (c.ticks) {
-        c.places = random_places(drives);
+    static const int kinds[] = {EVENT_CALL, EVENT_CALL, EVENT_CALL, EVENT_CALL, TICK_CALL, TICK_CALL, PAGE_CALL};
+    call c = {.kind = kinds[random_below(sizeof kinds / sizeof *kinds)], .drives = drives};
+    if (c.kind != EVENT_CALL) {
+        c.places = c.kind == TICK_CALL ? random_places(drives) : random_bytes(drives);
         return c;
     }
     c.entries = random_entries();
@@ -219,8 +295,9 @@ static call random_call(size_t drives)
 static void differ_at(const char *what, const call *c, size_t at)
 {
     printf("halls: %s\n", what);
-    printf("  %s on %zu drives, with %zu places\n", c->ticks ? "tick" : "event", c->drives, c->places);
-    if (!c->ticks) {
+    printf("  %s on %zu drives, with %zu places\n", c->kind == EVENT_CALL ? "event" : c->kind == TICK_CALL ? "tick" : "page",
+           c->drives, c->places);
+    if (c->kind == EVENT_CALL) {
         printf("  list:");
         for (size_t k = 0; k < c->entries; k++)
             printf(" %lu", (unsigned long)c->list[k]);
@@ -244,18 +321,106 @@ static void differ(const char *what, const call *c)
     differ_at(what, c, ROOM);
 }
 
+/* Printed as it is, with a point for what is no printed character. */
+static void show_line(const char *name, const uint8_t *line)
+{
+    printf("  %s: \"", name);
+    for (size_t i = 0; i < DAMPER_HALL_LINE; i++)
+        putchar(line[i] >= ' ' && line[i] <= '~' ? line[i] : '.');
+    printf("\"\n");
+    show(name, line, DAMPER_HALL_LINE);
+}
+
+/* At a byte of the page. */
+static void differ_in_page(const char *what, const call *c, size_t at)
+{
+    size_t place = at < PAGE_FRONT ? 0 : (at - PAGE_FRONT) / DAMPER_HALL_LINE;
+    size_t start = at < PAGE_FRONT ? 0 : PAGE_FRONT + place * DAMPER_HALL_LINE;
+    printf("halls: %s, at byte %d of the page, line %zu\n", what, (int)at - PAGE_FRONT, place);
+    if (start + DAMPER_HALL_LINE <= PAGE_ROOM) {
+        show_line("proved line", proved.page + start);
+        show_line("plain line", plain.page + start);
+    }
+    differ_at(what, c, at >= PAGE_FRONT && place < c->drives && place < ROOM - FRONT ? FRONT + place : ROOM);
+}
+
+static unsigned digits(unsigned number)
+{
+    return number < 10 ? 1 : number < 100 ? 2 : 3;
+}
+
+/* Counts what a line shows; gives whether its drive is well formed. */
+static bool count_line(const damper_drive *d, size_t number, const uint8_t *line)
+{
+    static const struct {
+        const char *name;
+        int ruling;
+    } names[] = {
+        {"fault   ", LINE_FAULT}, {"forced  ", LINE_FORCED}, {"run     ", LINE_RUN},       {"hand    ", LINE_HAND},
+        {"tool    ", LINE_TOOL},  {"bus     ", LINE_BUS},    {"backup  ", LINE_BACKUP},
+    };
+    counts[LINE_NUMBER_1 + digits((unsigned)number) - 1]++;
+    if (!damper_well_formed(*d)) {
+        counts[LINE_BROKEN]++;
+        return false;
+    }
+    int ruling = COUNTS;
+    for (size_t i = 0; i < sizeof names / sizeof *names; i++)
+        if (memcmp(line + 11, names[i].name, 8) == 0)
+            counts[ruling = names[i].ruling]++;
+    unsigned percent = (100 * d->position + 127u) / 255, timeout = d->params[DAMPER_PLACE_TIMEOUT], status = 0;
+    counts[LINE_TIMEOUT] += ruling == LINE_BUS && d->age == timeout;
+    counts[LINE_PAST] += ruling == LINE_BACKUP && d->age == timeout + 1;
+    counts[LINE_POSITION_1 + digits(d->position) - 1]++;
+    counts[LINE_PERCENT_1 + digits(percent) - 1]++;
+    counts[LINE_RAISED] += percent != 100u * d->position / 255;
+    for (unsigned bit = 0; bit < BITS; bit++) {
+        bool set = line[27 - bit] == '1';
+        shown[set][bit]++;
+        status |= (unsigned)set << bit;
+    }
+    counts[LINE_STATUS] += status != d->last.status;
+    return true;
+}
+
+static void count_page(const call *c, uint8_t refusal)
+{
+    size_t asked = c->drives * DAMPER_HALL_LINE, well_formed = 0;
+    bool by_length = refusal == DAMPER_HALL_REFUSAL_PAGE;
+    counts[PAGE_14] += refusal == DAMPER_HALL_REFUSAL_ROW;
+    counts[PAGE_BOTH] += refusal == DAMPER_HALL_REFUSAL_ROW && c->places < asked;
+    counts[PAGE_17] += by_length;
+    counts[PAGE_NONE] += by_length && c->places == 0;
+    counts[PAGE_LESS] += by_length && c->places + 1 == asked;
+    counts[PAGE_28] += by_length && c->drives > 1 && c->places == 28 * c->drives;
+    if (refusal != 0)
+        return;
+    counts[PAGE_EXACT] += c->places == asked;
+    counts[PAGE_MORE] += c->places == asked + 1;
+    counts[PAGE_LONGER] += c->places > asked + 1;
+    counts[PAGE_OF_1] += c->drives == 1;
+    counts[PAGE_OF_64] += c->drives == DAMPER_HALL_MOST;
+    for (size_t i = 0; i < c->drives; i++)
+        well_formed += count_line(&proved.row[FRONT + i], i, proved.page + PAGE_FRONT + i * DAMPER_HALL_LINE);
+    counts[PAGE_MIXED] += well_formed > 0 && well_formed < c->drives;
+}
+
 /* Counts the cases of a call; `named` says how often each drive is. */
 static void count(const call *c, uint8_t refusal, const unsigned *named)
 {
-    size_t asked = c->ticks ? c->drives : c->entries, bad = c->entries;
+    size_t asked = c->kind == TICK_CALL ? c->drives : c->entries, bad = c->entries;
     counts[ROW_OF_0] += c->drives == 0;
     counts[ROW_OF_1] += c->drives == 1;
     counts[ROW_OF_64] += c->drives == DAMPER_HALL_MOST;
     counts[ROW_OF_65] += c->drives == DAMPER_HALL_MOST + 1;
+    if (c->kind == PAGE_CALL) {
+        count_page(c, refusal);
+        return;
+    }
     counts[SHORTER] += c->places < asked;
     counts[EQUAL] += c->places == asked;
     counts[LONGER] += c->places > asked;
-    if (c->ticks) {
+    if (c->kind == TICK_CALL) {
         counts[TICK_14] += refusal == DAMPER_HALL_REFUSAL_ROW;
         counts[TICK_16] += refusal == DAMPER_HALL_REFUSAL_CALL;
         counts[TICK_GIVEN] += refusal == 0;
@@ -310,15 +475,42 @@ static uint8_t call_of(lent *on, const call *c, bool archive)
     damper_drive *row = on->row + FRONT;
     uint8_t *answers = on->answers + FRONT;
     uint32_t *numbers = on->numbers + FRONT;
-    if (c->ticks)
+    if (c->kind == TICK_CALL)
         return (archive ? damper_hall_tick : plain_hall_tick)(row, c->drives, numbers, c->places);
+    if (c->kind == PAGE_CALL)
+        return (archive ? damper_hall_page : plain_hall_page)(row, c->drives, on->page + PAGE_FRONT, c->places);
     return (archive ? damper_hall_event : plain_hall_event)(row, c->drives, c->list, c->entries, c->given.bytes,
                                                             c->given.length, answers, c->places);
+}
+
+/* Bytes of no line, in which the last page leaves nothing behind. */
+static void new_page(void)
+{
+    for (size_t i = 0; i < PAGE_ROOM; i++)
+        proved.page[i] = (uint8_t)(0x80 | (i * 151 + 7));
+    memcpy(plain.page, proved.page, sizeof plain.page);
+}
+
+/* The lines are those of the plain page, and all else is as it was. */
+static void compare_pages(const call *c, uint8_t refusal)
+{
+    size_t end = PAGE_FRONT + (c->kind == PAGE_CALL && refusal == 0 ? c->drives * DAMPER_HALL_LINE : 0);
+    if (memcmp(proved.page, plain.page, sizeof proved.page) == 0 && memcmp(proved.page, before.page, PAGE_FRONT) == 0 &&
+        memcmp(proved.page + end, before.page + end, PAGE_ROOM - end) == 0)
+        return;
+    for (size_t at = 0; at < PAGE_ROOM; at++) {
+        if (proved.page[at] != plain.page[at])
+            differ_in_page("the pages differ", c, at);
+        if ((at < PAGE_FRONT || at >= end) && proved.page[at] != before.page[at])
+            differ_in_page("no line's byte, and it has changed", c, at);
+    }
 }
 
 static void compare(const call *c)
 {
     call kept = *c;
+    if (c->kind == PAGE_CALL)
+        new_page();
     memcpy(&before, &proved, sizeof before);
     uint8_t refusal = call_of(&proved, c, true), due = call_of(&plain, c, false);
     if (refusal != due) {
@@ -332,9 +524,9 @@ static void compare(const call *c)
         differ("refused, and something has changed", c);
 
     unsigned named[ROOM] = {0};
-    if (refusal == 0)
-        for (size_t i = 0; i < (c->ticks ? c->drives : c->entries); i++)
-            named[c->ticks ? i : c->list[i]]++;
+    if (refusal == 0 && c->kind != PAGE_CALL)
+        for (size_t i = 0; i < (c->kind == TICK_CALL ? c->drives : c->entries); i++)
+            named[c->kind == TICK_CALL ? i : c->list[i]]++;
     for (size_t at = 0; at < ROOM; at++) {
         if (!same(&proved.row[at], &plain.row[at]))
             differ_at("the drives differ", c, at);
@@ -343,6 +535,7 @@ static void compare(const call *c)
         if (proved.answers[at] != plain.answers[at] || proved.numbers[at] != plain.numbers[at])
             differ_at("the answers differ", c, at);
     }
+    compare_pages(c, refusal);
     count(c, refusal, named);
 }
 
@@ -370,13 +563,20 @@ int main(void)
     }
 
     unsigned long calls = counts[EVENT_GIVEN] + counts[EVENT_14] + counts[EVENT_15] + counts[EVENT_16] + counts[TICK_GIVEN] +
-                          counts[TICK_14] + counts[TICK_16];
+                          counts[TICK_14] + counts[TICK_16] + counts[PAGE_EXACT] + counts[PAGE_MORE] + counts[PAGE_LONGER] +
+                          counts[PAGE_14] + counts[PAGE_17];
     printf("halls in C: %lu calls agree; met:", calls);
     for (int i = 0; i < COUNTS; i++)
         printf("%s %s %lu", i > 0 ? "," : "", texts[i], counts[i]);
     printf("; answers 0 to 13:");
     for (int i = 0; i <= DAMPER_REFUSAL_CALIBRATION; i++)
         printf(" %lu", answered[i]);
+    printf("; status bits 0 to 5 shown as 1:");
+    for (int bit = 0; bit < BITS_SET; bit++)
+        printf(" %lu", shown[1][bit]);
+    printf("; 0 to 7 as 0:");
+    for (int bit = 0; bit < BITS; bit++)
+        printf(" %lu", shown[0][bit]);
     printf("\n");
     for (int i = 0; i < COUNTS; i++)
         if (counts[i] < LEAST) {
@@ -386,6 +586,11 @@ int main(void)
     for (int i = 0; i <= DAMPER_REFUSAL_CALIBRATION; i++)
         if (answered[i] < LEAST) {
             printf("halls: too seldom: answer %d\n", i);
+            return 1;
+        }
+    for (int bit = 0; bit < BITS; bit++)
+        if (shown[0][bit] < LEAST || (bit < BITS_SET && shown[1][bit] < LEAST)) {
+            printf("halls: too seldom: status bit %d\n", bit);
             return 1;
         }
     return 0;

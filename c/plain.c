@@ -1,4 +1,7 @@
-/* The damper drive of document 01, with the percents of request W-202, and the hall of request W-201. */
+/*
+ * The damper drive of document 01, with the percents of request W-202, the hall of request W-201 and the shift page of request
+ * W-203.
+ */
 #include "plain.h"
 
 #include <string.h>
@@ -445,5 +448,71 @@ uint8_t plain_hall_tick(damper_drive *row, size_t drives, uint32_t *numbers, siz
         else
             numbers[i] = DAMPER_HALL_SILENT;
     }
+    return 0;
+}
+
+/* The shift page. */
+
+/* The first column of each field, and the line feed. */
+enum { NUMBER_AT = 0, POSITION_AT = 3, PERCENT_AT = 7, RULING_AT = 11, STATUS_AT = 20, FEED_AT = 28 };
+
+#define RULING_COLUMNS 8
+#define STATUS_COLUMNS 8
+
+/* By rank, filled up with blanks. */
+static const char rulings[][RULING_COLUMNS + 1] = {
+    [DAMPER_RANK_BACKUP] = "backup  ", [DAMPER_RANK_BUS] = "bus     ", [DAMPER_RANK_TOOL] = "tool    ",
+    [DAMPER_RANK_HAND] = "hand    ",   [DAMPER_RANK_RUN] = "run     ", [DAMPER_RANK_FORCING] = "forced  ",
+    [DAMPER_RANK_FAULT] = "fault   ",
+};
+
+static uint8_t digit(unsigned number)
+{
+    return (uint8_t)('0' + number % 10);
+}
+
+/* Numbers to the right, up to 99 and up to 999. */
+
+static void put_in_2(uint8_t *field, unsigned number)
+{
+    field[0] = number < 10 ? ' ' : digit(number / 10);
+    field[1] = digit(number);
+}
+
+static void put_in_3(uint8_t *field, unsigned number)
+{
+    field[0] = number < 100 ? ' ' : digit(number / 100);
+    field[1] = number < 10 ? ' ' : digit(number / 10);
+    field[2] = digit(number);
+}
+
+static void put_bits(uint8_t *field, unsigned bits)
+{
+    for (unsigned i = 0; i < STATUS_COLUMNS; i++)
+        field[i] = (uint8_t)('0' + (bits >> (STATUS_COLUMNS - 1 - i) & 1));
+}
+
+static void put_line(uint8_t *line, unsigned number, const damper_drive *d)
+{
+    /* A record that is not well formed, but for its number. */
+    static const char dashes[] = "   --- --- -------- --------\n";
+    memcpy(line, dashes, FEED_AT + 1);
+    put_in_2(line + NUMBER_AT, number);
+    if (!plain_well_formed(d))
+        return;
+    put_in_3(line + POSITION_AT, d->position);
+    put_in_3(line + PERCENT_AT, percent_of(d->position));
+    memcpy(line + RULING_AT, rulings[ruling_rank(d)], RULING_COLUMNS);
+    put_bits(line + STATUS_AT, status(d));
+}
+
+uint8_t plain_hall_page(const damper_drive *row, size_t drives, uint8_t *page, size_t bytes)
+{
+    if (!hall_fits(drives))
+        return DAMPER_HALL_REFUSAL_ROW;
+    if (bytes < drives * DAMPER_HALL_LINE)
+        return DAMPER_HALL_REFUSAL_PAGE;
+    for (unsigned i = 0; i < drives; i++)
+        put_line(page + i * DAMPER_HALL_LINE, i, &row[i]);
     return 0;
 }

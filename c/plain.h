@@ -18,9 +18,10 @@ void plain_step(damper_drive *d, const uint8_t *bytes, size_t length, uint8_t *w
 size_t plain_replay(damper_drive *d, const uint8_t *bytes, size_t length, uint8_t *words, size_t words_length, uint32_t *codes,
                     size_t codes_length);
 
-/* The two calls of a hall, on the row as it stands; they give 0 or a refusal from 14 to 16. */
+/* The three calls of a hall, on the row as it stands; they give 0 or a refusal from 14 to 17. */
 uint8_t plain_hall_event(damper_drive *row, size_t drives, const uint32_t *list, size_t entries, const uint8_t *bytes,
                          size_t length, uint8_t *answers, size_t places);
 uint8_t plain_hall_tick(damper_drive *row, size_t drives, uint32_t *numbers, size_t places);
+uint8_t plain_hall_page(const damper_drive *row, size_t drives, uint8_t *page, size_t bytes);
 
 #endif

@@ -759,7 +759,7 @@ module _ {logic} {machine} where
   exits : (m : ℕ) → {result} → m < 2 ^ 8 → {lens[0]}ent 𝓤 (⋆ 𝓤 H A Ends) (Post (vint w8 m))
   exits m judged fits {lens[1]}=
       qed W Ends ∵
-      suffices ! _ (ends-at 𝓤 H A f.ended stayed (f.clauses 𝓤 H A mem run) W {ghost} (vint w8 m) m {at_exit} {len_exit}) $ says ! (judged{', refl' * len(self.lent)}) $
+      suffices ! _ (ends-at 𝓤 H A f.ended stayed (f.clauses 𝓤 H A mem run) W {ghost} (vint w8 m) m {at_exit} {len_exit}) $ says ! (judged{', refl' * len(self.lent + self.looked)}) $
 {self.exits()}
 {VARIANT}  module _ (𝓣 : Tables 𝓤 H) {knows} where
     module _ {known} ({locations(len(self.types))} : ℕ) where

@@ -8,6 +8,7 @@ use damper::Drive;
 #[no_mangle]
 pub extern "C" fn damper_hall_page(row: &[Drive], page: &mut [u8]) -> u8
     ensures { λ r. ⌜ (r ≡ pageRefusal (length (now (row .entry))) (length (now (page .entry))))
+        × (now (row .exit) ≡ now (row .entry))
         × (now (page .exit) ≡ pageAfter (now (row .entry)) (now (page .entry))) ⌝ }
 {
     let refusal = shift::page_refusal(row.len(), page.len());

@@ -3,7 +3,7 @@
 
 use crate::event::Event;
 use crate::gen::records;
-use crate::hall::HallModel;
+use crate::hall::{HallModel, LINE};
 use crate::model::Model;
 use crate::plain::Plain;
 use crate::proved::Proved;
@@ -34,9 +34,9 @@ fn sample(what: &str, n: usize) -> Vec<u8> {
 }
 
 /// For a count of instructions, by `proved`, `model`, `plain` or none of them: a replay of n records; or, as
-/// `hall` or `list`, hall ticks or event calls for n drives, 64 in a call.
+/// `hall`, `list` or `page`, hall ticks, event calls or shift pages for n drives, 64 in a call.
 pub fn spend(who: &str, what: &str, n: usize) {
-    if matches!(what, "hall" | "list") {
+    if matches!(what, "hall" | "list" | "page") {
         return spend_on_halls(who, what, n);
     }
     let bytes = sample(what, n);
@@ -53,7 +53,7 @@ pub fn spend(who: &str, what: &str, n: usize) {
 
 fn spend_on_halls(who: &str, what: &str, n: usize) {
     let (mut rows, list, events) = (lived(4), any_order(), listed_events());
-    let (mut numbers, mut answers) = ([0; HALL_MOST], [0; HALL_MOST]);
+    let (mut numbers, mut answers, mut page) = ([0; HALL_MOST], [0; HALL_MOST], [0; HALL_MOST * LINE]);
     let hall: &dyn Hall = match who {
         "proved" => &Proved,
         "model" => &HallModel,
@@ -64,10 +64,11 @@ fn spend_on_halls(who: &str, what: &str, n: usize) {
         let row = rows.chunks_mut(HALL_MOST).nth(i % 4).unwrap();
         match what {
             "hall" => hall.tick(row, &mut numbers),
+            "page" => hall.page(row, &mut page),
             _ => hall.event(row, &list, &events[i % events.len()], &mut answers),
         };
     }
-    black_box((rows, numbers, answers));
+    black_box((rows, numbers, answers, page));
 }
 
 fn median(mut values: Vec<f64>) -> f64 {
@@ -178,11 +179,12 @@ fn any_order() -> [u32; HALL_MOST] {
     std::array::from_fn(|i| (i as u32 * 37 + 11) % 64)
 }
 
-/// Calls on halls of `size` by the three, with the same drives and answers after them. `call` also gets the
-/// count of calls so far.
+/// Calls on halls of `size` by the three, with the same drives and answers after them, `places` of them for
+/// each drive. `call` also gets the count of calls so far.
 fn on_halls<T: Clone + PartialEq + Default>(
     what: &str,
     size: usize,
+    places: usize,
     call: impl Fn(&dyn Hall, usize, &mut [Drive], &mut [T]) -> u8,
 ) {
     let first = lived(HALLS);
@@ -191,14 +193,14 @@ fn on_halls<T: Clone + PartialEq + Default>(
         for _ in 0..ANEW {
             rows.copy_from_slice(&first);
             for _ in 0..CALLS {
-                for (row, answers) in rows.chunks_mut(size).zip(answers.chunks_mut(size)) {
+                for (row, answers) in rows.chunks_mut(size).zip(answers.chunks_mut(size * places)) {
                     assert!(call(hall, count, row, answers) == 0);
                     count += 1;
                 }
             }
         }
     };
-    let lent = || (first.clone(), vec![T::default(); first.len()]);
+    let lent = || (first.clone(), vec![T::default(); first.len() * places]);
     let (mut proved, mut model, mut plain) = (lent(), lent(), lent());
     let drives = first.len() * CALLS * ANEW;
     Rounds::of(
@@ -213,12 +215,16 @@ fn on_halls<T: Clone + PartialEq + Default>(
 
 fn halls() {
     for size in [HALL_MOST, 1] {
-        on_halls(&format!("hall tick of {size}"), size, |hall, _, row, numbers| hall.tick(row, numbers));
+        on_halls(&format!("hall tick of {size}"), size, 1, |hall, _, row, numbers| hall.tick(row, numbers));
     }
     let (list, events) = (any_order(), listed_events());
-    on_halls("event to a list of 64", HALL_MOST, |hall, count, row, answers| {
+    on_halls("event to a list of 64", HALL_MOST, 1, |hall, count, row, answers| {
         hall.event(row, &list, &events[count % events.len()], answers)
     });
+    // The second implementation's by Rust's formatting.
+    for size in [HALL_MOST, 1] {
+        on_halls(&format!("shift page of {size}"), size, LINE, |hall, _, row, page| hall.page(row, page));
+    }
 }
 
 /// The programs: the proved one at `program`, and this one as `drive`.

@@ -1,13 +1,17 @@
 //! The hall of document 02's W-201: drives in one row, worked on where they stand, each by the drive of
-//! `model`.
+//! `model`. The shift page is its W-203.
 
 use crate::event::Event;
-use crate::model::Model;
+use crate::model::{position_to_percent, Model};
 use crate::subject::Hall;
-use damper::{Answer, Drive};
+use damper::{Answer, Drive, Rank, Status};
+use std::io::{self, Write};
 
 /// The most drives in a row, and the most entries in a list.
 const MOST: usize = 64;
+
+/// Bytes of a line: "exactly 28 columns and a line feed".
+pub const LINE: usize = 29;
 
 pub struct HallModel;
 
@@ -34,6 +38,18 @@ impl Hall for HallModel {
         }
         for (drive, number) in row.iter_mut().zip(numbers) {
             *number = tick_number(Model::give(drive, Ok(Event::Tick)));
+        }
+        0
+    }
+
+    /// "a printed page, a line for each drive"; "Bytes after the last line keep their content."
+    fn page(&self, row: &[Drive], page: &mut [u8]) -> u8 {
+        let refusal = judge_page(row.len(), page.len());
+        if refusal != 0 {
+            return refusal; // "nothing written"
+        }
+        for ((number, drive), line) in row.iter().enumerate().zip(page.chunks_exact_mut(LINE)) {
+            print_line(line, number, drive).expect("a line has 29 bytes");
         }
         0
     }
@@ -67,6 +83,18 @@ fn judge_tick(drives: usize, places: usize) -> u8 {
     }
 }
 
+/// 0, or the first that fits a page call: "17 when the lent page is shorter than 29 bytes per drive, checked
+/// after 14".
+fn judge_page(drives: usize, bytes: usize) -> u8 {
+    if outside_1_to_64(drives) {
+        14
+    } else if bytes < LINE * drives {
+        17
+    } else {
+        0
+    }
+}
+
 /// "14 when the row holds no drive or over 64."
 fn outside_1_to_64(drives: usize) -> bool {
     drives == 0 || drives > MOST
@@ -88,5 +116,31 @@ fn tick_number(answer: Answer) -> u32 {
         }
         Answer::Refused(_) => 1,
         _ => 0,
+    }
+}
+
+/// "number 2, position 3, percent 3, all to the right; ruling commander 8, to the left [...]; status as 8
+/// binary digits, highest bit first; one blank between fields". Drives are numbered from 0, as in W-201.
+fn print_line(mut line: &mut [u8], number: usize, drive: &Drive) -> io::Result<()> {
+    let Some((rank, Status(status))) = Model::ruling_and_status(drive) else {
+        // "A record that isn't well formed shows its number and minus signs filling the other fields."
+        return writeln!(line, "{number:>2} --- --- -------- --------");
+    };
+    let position = drive.position;
+    let percent = position_to_percent(position);
+    let ruling = ruling_name(rank);
+    writeln!(line, "{number:>2} {position:>3} {percent:>3} {ruling:<8} {status:08b}")
+}
+
+/// "fault, forced, run, hand, tool, bus, backup"
+fn ruling_name(rank: Rank) -> &'static str {
+    match rank {
+        Rank::Fault => "fault",
+        Rank::Forcing => "forced",
+        Rank::Run => "run",
+        Rank::Hand => "hand",
+        Rank::Tool => "tool",
+        Rank::Bus => "bus",
+        Rank::Backup => "backup",
     }
 }

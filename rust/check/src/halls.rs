@@ -1,6 +1,6 @@
 //! Halls against the second implementation, over lists of calls: after each call its number, the whole row
-//! and the whole answer row are compared, with a place behind each that was not lent. What a drive that was
-//! fresh at first got of the calls, its share, goes through the checker of demand 3.
+//! and the whole answer row or page are compared, with places behind each that were not lent. What a drive
+//! that was fresh at first got of the calls, its share, goes through the checker of demand 3.
 
 pub mod cover;
 pub mod gen;
@@ -8,7 +8,7 @@ pub mod wrong;
 
 use crate::check::{Breach, Checker};
 use crate::compare::{hex, shorten, Ask, Finding};
-use crate::hall::HallModel;
+use crate::hall::{HallModel, LINE};
 use crate::model::Model;
 use crate::subject::{Hall, Subject};
 use cover::HallCover;
@@ -76,6 +76,28 @@ fn odd<T>(places: usize, content: impl Fn(u32) -> T) -> Vec<T> {
     (0..=places as u32).map(content).collect()
 }
 
+/// The first answer that differs.
+fn answers_differ<T: PartialEq + Debug>(model: &[T], tested: &[T]) -> Option<String> {
+    if model == tested {
+        return None;
+    }
+    let i = (0..model.len()).find(|&i| model[i] != tested[i])?;
+    Some(format!("\n  answer {i}: model {:?}, subject {:?}", model[i], tested[i]))
+}
+
+/// The first line that differs, and its drive; behind the last one are bytes that no call writes.
+fn lines_differ(row: &[Drive], model: &[u8], tested: &[u8]) -> Option<String> {
+    if model == tested {
+        return None;
+    }
+    let mut lines = model.chunks(LINE).zip(tested.chunks(LINE)).enumerate();
+    let (i, (model, tested)) = lines.find(|(_, (model, tested))| model != tested)?;
+    let (model, tested) = (model.escape_ascii(), tested.escape_ascii());
+    let text = format!("\n  line {i}: model   \"{model}\"\n  line {i}: subject \"{tested}\"");
+    let drive = row.get(i).map(|drive| format!("\n  drive {i}: {drive:?}"));
+    Some(text + &drive.unwrap_or_default())
+}
+
 impl<'h, H: Hall + ?Sized> Pair<'h, H> {
     fn new(hall: &'h H, ask: Ask, row: &[Drive]) -> Self {
         let behind = Drive::from_bytes([0xEE; 44]);
@@ -99,6 +121,7 @@ impl<'h, H: Hall + ?Sized> Pair<'h, H> {
         match *call {
             Call::Event { ref list, bytes, places } => self.event(list, bytes.as_slice(), places, cover),
             Call::Tick { places } => self.tick(places, cover),
+            Call::Page { bytes } => self.page(bytes, cover),
         }
     }
 
@@ -128,7 +151,7 @@ impl<'h, H: Hall + ?Sized> Pair<'h, H> {
                 }
             }
         }
-        self.judge((expected, &model), (number, &tested), breach)
+        self.judge((expected, number), answers_differ(&model, &tested), breach)
     }
 
     fn tick(&mut self, places: usize, cover: Option<&mut HallCover>) -> Result<(), Failure> {
@@ -147,24 +170,36 @@ impl<'h, H: Hall + ?Sized> Pair<'h, H> {
                 }
             }
         }
-        self.judge((expected, &model), (number, &tested), breach)
+        self.judge((expected, number), answers_differ(&model, &tested), breach)
     }
 
-    /// Each side's number and answer row, and the rows of drives: by field, that is, every byte but the two
-    /// that no field has.
-    fn judge<T: PartialEq + Debug>(
+    /// A page belongs to no share: it gives a drive nothing.
+    fn page(&mut self, bytes: usize, cover: Option<&mut HallCover>) -> Result<(), Failure> {
+        let lent = odd(bytes + LINE, |i| 0x80 | i as u8);
+        let (mut model, mut tested) = (lent.clone(), lent);
+        let expected = HallModel.page(&self.model[..self.drives], &mut model[..bytes]);
+        let number = self.hall.page(&self.tested[..self.drives], &mut tested[..bytes]);
+        if let Some(cover) = cover {
+            cover.page(self.row(), expected, &model[..bytes]);
+        }
+        self.judge((expected, number), lines_differ(self.row(), &model, &tested), Breach::default())
+    }
+
+    /// Each side's number, how what they filled differs, and the rows of drives: by field, that is, every
+    /// byte but the two that no field has.
+    fn judge(
         &self,
-        (expected, model): (u8, &[T]),
-        (number, tested): (u8, &[T]),
+        (expected, number): (u8, u8),
+        difference: Option<String>,
         breach: Breach,
     ) -> Result<(), Failure> {
-        let same = number == expected && tested == model && self.tested == self.model;
+        let same = number == expected && difference.is_none() && self.tested == self.model;
         if (same || self.ask == Ask::Demand3) && breach.none() {
             return Ok(());
         }
         let mut text = format!("model {expected}, subject {number}");
-        if let Some(i) = (0..model.len()).find(|&i| model[i] != tested[i]) {
-            text += &format!("\n  answer {i}: model {:?}, subject {:?}", model[i], tested[i]);
+        if let Some(difference) = difference {
+            text += &difference;
         }
         let drive = (0..self.model.len()).find(|&i| self.model[i] != self.tested[i]);
         if let Some(i) = drive {
@@ -236,6 +271,7 @@ pub fn halls<H: Hall + ?Sized>(
                     format!("\n  {} to {list:?}, {places} places", hex(bytes.as_slice()))
                 }
                 Call::Tick { places } => format!("\n  hall tick, {places} places"),
+                Call::Page { bytes } => format!("\n  page of {bytes} bytes"),
             };
         }
         match failure_on(&short) {

@@ -1,6 +1,6 @@
-//! A second implementation of the damper drive of document 01, with document 02's hall (W-201) and percents
-//! (W-202), written from the papers alone, and the runs that set another implementation (a `Subject`, a
-//! `Hall`) against it.
+//! A second implementation of the damper drive of document 01, with document 02's hall (W-201), percents
+//! (W-202) and shift page (W-203), written from the papers alone, and the runs that set another
+//! implementation (a `Subject`, a `Hall`) against it.
 //!
 //! The second implementation is `table`, `event` and `model`, and `hall` over them; it shares with a host's
 //! crate `damper` the types of the drive record and of the answer, and no rule. `check` stands apart: it

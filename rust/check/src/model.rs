@@ -50,6 +50,13 @@ impl Model {
             Err(refusal) => Answer::Refused(refusal),
         }
     }
+
+    /// Who rules, and the status, of the record as it is: without a tick, so the age has not risen. None if
+    /// the record is not well formed.
+    pub fn ruling_and_status(record: &Drive) -> Option<(Rank, Status)> {
+        let state = State::from_record(record)?;
+        Some((state.ruling().0, state.status()))
+    }
 }
 
 /// Document 02, W-202: "a percent becomes the nearest position, halves down". With 50 for 49 they would go up.

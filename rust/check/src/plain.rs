@@ -27,6 +27,7 @@ extern "C" {
         places: usize,
     ) -> u8;
     fn plain_hall_tick(row: *mut Drive, drives: usize, numbers: *mut u32, places: usize) -> u8;
+    fn plain_hall_page(row: *const Drive, drives: usize, page: *mut u8, bytes: usize) -> u8;
 }
 
 pub struct Plain;
@@ -96,5 +97,10 @@ impl Hall for Plain {
     fn tick(&self, row: &mut [Drive], numbers: &mut [u32]) -> u8 {
         // SAFETY: each pointer goes with the length of its slice.
         unsafe { plain_hall_tick(row.as_mut_ptr(), row.len(), numbers.as_mut_ptr(), numbers.len()) }
+    }
+
+    fn page(&self, row: &[Drive], page: &mut [u8]) -> u8 {
+        // SAFETY: each pointer goes with the length of its slice.
+        unsafe { plain_hall_page(row.as_ptr(), row.len(), page.as_mut_ptr(), page.len()) }
     }
 }

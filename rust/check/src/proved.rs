@@ -39,6 +39,11 @@ impl Hall for Proved {
     fn tick(&self, row: &mut [Drive], numbers: &mut [u32]) -> u8 {
         number(damper::hall_tick(row, numbers))
     }
+
+    #[inline]
+    fn page(&self, row: &[Drive], page: &mut [u8]) -> u8 {
+        number(damper::hall_page(row, page))
+    }
 }
 
 fn number(result: Result<(), HallRefusal>) -> u8 {

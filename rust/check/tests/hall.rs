@@ -1,18 +1,22 @@
-//! The hall of document 02's W-201: its corners by hand, on the proved hall and on the second implementation,
-//! and the comparison of the two in short.
+//! The hall of document 02's W-201 and the shift page of its W-203: their corners by hand, on the proved hall
+//! and on the second implementation, and the comparison of the two in short.
 
-use damper::{Drive, Run};
+use damper::{Answer, Commands, Drive, Last, Rank, Run};
 use damper_check::check::{Checker, Clause};
 use damper_check::event::Event;
 use damper_check::gen::Gen;
-use damper_check::hall::HallModel;
+use damper_check::hall::{HallModel, LINE};
 use damper_check::halls::cover::HallCover;
 use damper_check::halls::{halls, wrong};
 use damper_check::model::Model;
+use damper_check::plain::Plain;
 use damper_check::proved::Proved;
 use damper_check::subject::{Hall, Subject};
+use damper_check::table::Param;
 
 const BOTH: [&dyn Hall; 2] = [&Proved, &HallModel];
+/// With the plain C hall, for pages.
+const THREE: [&dyn Hall; 3] = [&Proved, &HallModel, &Plain];
 
 const TICK: [u8; 6] = [0x5A, 0xC3, 1, 0, 0, 0];
 const SETPOINT: [u8; 6] = [0x5A, 0xC3, 2, 200, 0, 0];
@@ -195,7 +199,7 @@ fn tick_numbers() {
     let mut open = Model.fresh();
     open.position = 255;
     open.params[3] = 1;
-    open.commands = damper::Commands { fault: 1, forcing: 3, hand: 1, handpos: 9, ..open.commands };
+    open.commands = Commands { fault: 1, forcing: 3, hand: 1, handpos: 9, ..open.commands };
     for hall in BOTH {
         let mut row = [Model.fresh(), open];
         for count in 1..=10 {
@@ -238,6 +242,161 @@ fn refused_calls_belong_to_no_share() {
     }
 }
 
+/// A page of so many bytes, each of them other than a line's, after a call that leaves the row and what is
+/// behind the page as they were.
+fn page(hall: &dyn Hall, row: &[Drive], bytes: usize) -> (u8, Vec<u8>) {
+    let (before, mut lent) = (row.to_vec(), odd_page(bytes + 100));
+    let number = hall.page(row, &mut lent[..bytes]);
+    assert_eq!(row, before);
+    assert_eq!(lent[bytes..], odd_page(bytes + 100)[bytes..]);
+    lent.truncate(bytes);
+    (number, lent)
+}
+
+fn odd_page(bytes: usize) -> Vec<u8> {
+    (0..bytes).map(|i| 0x80 | i as u8).collect()
+}
+
+/// The page is these lines, also with other bytes behind them.
+fn shows(row: &[Drive], lines: &[&[u8]]) {
+    let lines = lines.concat();
+    for hall in THREE {
+        for further in [0, 1, 28, 29, 30, 3000] {
+            let (number, page) = page(hall, row, lines.len() + further);
+            assert_eq!(number, 0);
+            let (shown, rest) = page.split_at(lines.len());
+            assert_eq!(shown, lines, "\n{}\n{}", shown.escape_ascii(), lines.escape_ascii());
+            assert_eq!(rest, &odd_page(page.len())[lines.len()..]);
+        }
+    }
+}
+
+/// A fresh drive elsewhere, with commands.
+fn at(position: u8, commands: Commands) -> Drive {
+    Drive { position, commands, ..Model.fresh() }
+}
+
+const NONE: Commands =
+    Commands { fault: 0, forcing: 0, hand: 0, handpos: 0, tool: 0, toolpos: 0, stored: 0, setpoint: 0 };
+const TIMEOUT: u16 = 1860;
+
+/// Each of the seven, active ones below it, the limit of Timeout, and records that are not well formed.
+#[test]
+fn a_page() {
+    let last = Last { reported: 1, position: 77, status: 0xFF };
+    let bus = Commands { stored: 1, setpoint: 200, ..NONE };
+    let row = [
+        at(255, Commands { fault: 1, forcing: 3, hand: 1, handpos: 9, ..NONE }),
+        at(0, Commands { forcing: 2, tool: 1, toolpos: 9, ..bus }),
+        Drive { run: Run { kind: 1, left: 3 }, ..at(3, Commands { hand: 1, ..NONE }) },
+        Drive { run: Run { kind: 2, left: 51 }, last, ..at(64, bus) },
+        Drive { run: Run { kind: 3, left: 1 }, ..at(128, NONE) },
+        at(51, Commands { hand: 1, tool: 1, ..bus }),
+        Drive { age: u16::MAX, ..at(100, Commands { tool: 1, ..bus }) },
+        at(5, Commands { forcing: 1, ..bus }),
+        Model.fresh(),
+        Drive { age: TIMEOUT, ..at(9, bus) },
+        Drive { age: TIMEOUT + 1, last, ..at(99, bus) },
+        broken(),
+        at(254, Commands { fault: 2, ..NONE }),
+        at(254, NONE),
+    ];
+    shows(
+        &row,
+        &[
+            b" 0 255 100 fault    00110011\n",
+            b" 1   0   0 forced   00010010\n",
+            b" 2   3   1 run      00100110\n",
+            b" 3  64  25 run      00001000\n",
+            b" 4 128  50 run      00101000\n",
+            b" 5  51  20 hand     00000010\n",
+            b" 6 100  39 tool     00100010\n",
+            b" 7   5   2 bus      00000000\n",
+            b" 8   0   0 backup   00100000\n",
+            b" 9   9   4 bus      00000000\n",
+            b"10  99  39 backup   00100000\n",
+            b"11 --- --- -------- --------\n",
+            b"12 --- --- -------- --------\n",
+            b"13 254 100 backup   00100000\n",
+        ],
+    );
+}
+
+/// As a page of one drive, and of one that is not well formed.
+#[test]
+fn pages_of_one() {
+    shows(&[Model.fresh()], &[b" 0   0   0 backup   00100000\n"]);
+    shows(&[broken()], &[b" 0 --- --- -------- --------\n"]);
+    shows(&[Drive::from_bytes([0xEE; 44])], &[b" 0 --- --- -------- --------\n"]);
+    shows(&[Drive::from_bytes([0; 44])], &[b" 0 --- --- -------- --------\n"]);
+}
+
+/// The page says bus where age is Timeout, and the next tick is ruled by backup.
+#[test]
+fn a_page_is_of_the_record_as_it_is() {
+    let mut drive = Model.fresh();
+    drive.params[Param::Timeout as usize] = 2;
+    drive = Model.step(&drive, &SETPOINT).1;
+    for (rank, line) in [
+        (Rank::Bus, b" 0   0   0 bus      00000000\n"),
+        (Rank::Bus, b" 0   5   2 bus      00000000\n"),
+        (Rank::Backup, b" 0  10   4 bus      00000000\n"),
+        (Rank::Backup, b" 0   5   2 backup   00100000\n"),
+    ] {
+        shows(&[drive], &[line]);
+        let (answer, after) = Model.step(&drive, &TICK);
+        assert!(matches!(answer, Answer::Tick { rank: ruled, .. } if ruled == rank));
+        drive = after;
+    }
+}
+
+#[test]
+fn a_page_of_64() {
+    let drive = at(10, Commands { stored: 1, setpoint: 10, ..NONE });
+    let line = |number: usize| {
+        let blank = if number < 10 { " " } else { "" };
+        format!("{blank}{number}  10   4 bus      00000000\n").into_bytes()
+    };
+    for drives in 1..=64 {
+        let lines: Vec<_> = (0..drives).map(line).collect();
+        shows(&vec![drive; drives], &lines.iter().map(Vec::as_slice).collect::<Vec<_>>());
+    }
+}
+
+/// Each position beside the nearest percent, found by a search.
+#[test]
+fn positions_and_percents() {
+    for position in 0..=255 {
+        let distance = |percent: &i32| (100 * i32::from(position) - 255 * percent).abs();
+        let percent = (0..=100).min_by_key(distance).unwrap();
+        let in_3 = |digits: String| " ".repeat(3 - digits.len()) + &digits;
+        let (position_in_3, percent_in_3) = (in_3(position.to_string()), in_3(percent.to_string()));
+        let line = format!(" 0 {position_in_3} {percent_in_3} backup   00100000\n");
+        shows(&[at(position, NONE)], &[line.as_bytes()]);
+    }
+}
+
+/// "17 when the lent page is shorter than 29 bytes per drive, checked after 14, nothing written."
+#[test]
+fn pages_refused() {
+    for hall in THREE {
+        for drives in [0, 65, 66, 128, 256, 257, 320] {
+            let row = vec![Model.fresh(); drives];
+            for bytes in [0, 1, 28 * drives, (29 * drives).saturating_sub(1), 29 * drives, 29 * drives + 1] {
+                assert_eq!(page(hall, &row, bytes), (14, odd_page(bytes)), "{drives}, {bytes}");
+            }
+        }
+        for drives in [1, 2, 9, 10, 63, 64] {
+            let row = vec![Model.fresh(); drives];
+            for bytes in [0, 1, 28, 29 * (drives - 1), 28 * drives, 29 * drives - 1] {
+                assert_eq!(page(hall, &row, bytes), (17, odd_page(bytes)), "{drives}, {bytes}");
+            }
+            assert_eq!(page(hall, &row, 29 * drives).0, 0);
+        }
+        assert_eq!(page(hall, &[broken(); 2], 2 * LINE - 1), (17, odd_page(2 * LINE - 1)));
+    }
+}
+
 #[test]
 fn short_comparison() {
     for seed in 1..4 {
@@ -272,4 +431,21 @@ fn findings_are_short() {
         let calls: usize = finding.text.split(' ').next().and_then(|n| n.parse().ok()).expect("a count");
         assert!(calls < 10, "{finding}");
     }
+}
+
+/// What is printed for a wrong page is the call, the two lines that differ, and the drive.
+#[test]
+fn findings_show_lines() {
+    let wrong = wrong::ALL.iter().find(|wrong| wrong.name == "CarriageReturn").unwrap();
+    let finding = halls(wrong.hall, 1, 60_000, &mut HallCover::default()).expect_err("a finding");
+    let lines: Vec<_> = finding.text.lines().collect();
+    let [calls, call, numbers, model, subject, drive] = lines[..] else { panic!("{finding}") };
+    assert!(calls.starts_with("1 calls on a hall of "), "{finding}");
+    assert!(call.starts_with("  page of "), "{finding}");
+    assert_eq!(numbers, "  model 0, subject 0");
+    let shown = model.strip_prefix("  line 0: model   ").and_then(|shown| shown.strip_suffix(r#"\n""#));
+    let shown = shown.unwrap_or_else(|| panic!("{finding}"));
+    assert!(shown.starts_with("\" 0 ") && shown.len() == 29, "{finding}");
+    assert_eq!(subject, format!(r#"  line 0: subject {shown}\r""#));
+    assert!(drive.starts_with("  drive 0: Drive { "), "{finding}");
 }

@@ -84,7 +84,7 @@ pub fn hall_tick(row: &mut [Drive], numbers: &mut [u32]) -> Result<(), HallRefus
 /// let mut page = [0; 3 * HALL_LINE];
 /// assert_eq!(hall_page(&row, &mut page), Ok(()));
 /// let lines = [
-///     " 0   0   0 backup   01000000\n",
+///     " 0   0   0 backup   00100000\n",
 ///     " 1   0   0 bus      00000000\n",
 ///     " 2 --- --- -------- --------\n",
 /// ];
@@ -226,7 +226,7 @@ mod tests {
         }
         for number in 0..=255 {
             let refusal = HallRefusal::numbered(number);
-            assert_eq!(refusal.is_some(), (14..=16).contains(&number));
+            assert_eq!(refusal.is_some(), (14..=17).contains(&number));
             assert!(refusal.is_none_or(|refusal| refusal.number() == number));
         }
     }

@@ -191,7 +191,7 @@ module _ {M : Type 1} (𝓤 : URA M) (H : Heap 𝓤) (A : Atoms 𝓤) (W : Given
   exits : (m : ℕ) → m ≡ pageRefusal (length ys) (length cs) → m < 2 ^ 8 → length zs₁ ≡ length cs → ent 𝓤 (⋆ 𝓤 H A Ends) (Post (vint w8 m))
   exits m judged fits len₁ =
       qed W Ends ∵
-      suffices ! _ (ends-at 𝓤 H A f.ended stayed (f.clauses 𝓤 H A mem run) W (((κ₀, (κ₁, tt)), (q₀, (q₁, tt)), tt, a, vals), tt) (vint w8 m) m (tt, (zs₁, tt)) (tt, (len₁, tt))) $ says ! (judged, refl) $
+      suffices ! _ (ends-at 𝓤 H A f.ended stayed (f.clauses 𝓤 H A mem run) W (((κ₀, (κ₁, tt)), (q₀, (q₁, tt)), tt, a, vals), tt) (vint w8 m) m (tt, (zs₁, tt)) (tt, (len₁, tt))) $ says ! (judged, refl, refl) $
       nothing ! $ move ! (5 ∷ 0 ∷ []) $ join ! $ move ! (1 ∷ 0 ∷ []) $ join ! $ frame ! $
       nothing ! $ move ! (2 ∷ 3 ∷ []) $ fjoin ! $ pureI ! (at-slice u8 (x₁ zs₁) (s₁ ∷ [])) (tt, (tt, tt)) (ap (λ (m : ℕ). sliceVal (b₁, o₁) m ∷ []) (sym len₁), subst (Room u8) (sym len₁) room₁) $ fjoin ! $ fjoin ! $
       move ! (1 ∷ 0 ∷ []) $ fjoin ! $

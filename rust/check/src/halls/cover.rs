@@ -1,6 +1,8 @@
 //! What a run on halls met. Counted on the second implementation's side.
 
 use crate::event::Event;
+use crate::hall::LINE;
+use crate::table::Param;
 use damper::{Drive, HallTick};
 use std::cmp::Ordering;
 
@@ -11,13 +13,14 @@ macro_rules! counters {
             /// At index n, answers n to an entry of a list.
             answers: [u64; 14],
             $($name: u64,)*
+            lines: Lines,
         }
 
         impl HallCover {
             /// Every count with its name.
             pub fn counts(&self) -> Vec<(String, u64)> {
                 let answers = (0..14).map(|n| (format!("answer {n}"), self.answers[n]));
-                answers.chain([$(($text.to_string(), self.$name)),*]).collect()
+                answers.chain([$(($text.to_string(), self.$name)),*]).chain(self.lines.counts()).collect()
             }
         }
     };
@@ -64,6 +67,98 @@ counters! {
     report: "tick with a report",
     not_well_formed: "tick of a drive not well formed",
     shares: "share of a fresh drive, checked",
+    page_14: "page refused by 14",
+    page_17: "page refused by 17",
+    page_fit_14_17: "page: 14 and 17 fit",
+    page_of_0_bytes: "page of no bytes refused by 17",
+    page_one_shorter: "page shorter by one byte refused",
+    page_28_each: "page of 28 bytes for each of two or more drives refused",
+    page_exact: "page written, exact",
+    page_longer: "page written, longer",
+    page_one_longer: "page written, longer by one byte",
+    page_far_longer: "page written, room for two or more further lines",
+    page_of_1: "page of 1 written",
+    page_of_64: "page of 64 written",
+    mixed_page: "page with lines of drives well formed and not",
+}
+
+/// Names on a page.
+const RULING: [&str; 7] = ["fault", "forced", "run", "hand", "tool", "bus", "backup"];
+const DIGITS: [&str; 3] = ["one digit", "two digits", "three digits"];
+
+/// Lines of pages, by what they show.
+#[derive(Default)]
+struct Lines {
+    /// By `RULING`.
+    ruling: [u64; 7],
+    not_well_formed: u64,
+    /// Bus rules for the last time: the next tick raises the age.
+    bus_at_timeout: u64,
+    /// The setpoint is one tick too old to rule.
+    backup_past_timeout: u64,
+    /// By `DIGITS`.
+    numbers: [u64; 2],
+    positions: [u64; 3],
+    percents: [u64; 3],
+    /// The percent is not the one that is rounded down.
+    percent_raised: u64,
+    /// Bits 0 to 5 shown as 1. Document 01: "6 and 7 are 0".
+    set: [u64; 6],
+    /// Bits 0 to 7 shown as 0.
+    clear: [u64; 8],
+    /// The last report's status is another one.
+    other_status: u64,
+}
+
+impl Lines {
+    fn counts(&self) -> Vec<(String, u64)> {
+        let single = [
+            ("not well formed", self.not_well_formed),
+            ("bus at age = Timeout", self.bus_at_timeout),
+            ("backup at age = Timeout + 1", self.backup_past_timeout),
+            ("percent not the one rounded down", self.percent_raised),
+            ("status not the last reported", self.other_status),
+        ];
+        let single = single.map(|(text, count)| (text.to_string(), count)).into_iter();
+        let ruling = RULING.iter().zip(self.ruling).map(|(name, count)| (name.to_string(), count));
+        let numbers =
+            [("number", &self.numbers[..]), ("position", &self.positions), ("percent", &self.percents)];
+        let numbers = numbers.into_iter().flat_map(|(what, counts)| {
+            DIGITS.iter().zip(counts).map(move |(digits, &count)| (format!("{what} of {digits}"), count))
+        });
+        let set = (0..6).map(|bit| (format!("status bit {bit} set"), self.set[bit]));
+        let clear = (0..8).map(|bit| (format!("status bit {bit} clear"), self.clear[bit]));
+        let all = ruling.chain(single).chain(numbers).chain(set).chain(clear);
+        all.map(|(text, count)| (format!("line: {text}"), count)).collect()
+    }
+
+    /// A line and its drive; whether the drive is well formed.
+    fn line(&mut self, drive: &Drive, line: &[u8]) -> bool {
+        let [number, position, percent, ruling, status] =
+            [0..2, 3..6, 7..10, 11..19, 20..28].map(|columns| line[columns].trim_ascii());
+        self.numbers[number.len() - 1] += 1;
+        let Some(rules) = RULING.iter().position(|name| name.as_bytes() == ruling) else {
+            self.not_well_formed += 1;
+            return false;
+        };
+        self.ruling[rules] += 1;
+        self.positions[position.len() - 1] += 1;
+        self.percents[percent.len() - 1] += 1;
+        add(&mut self.percent_raised, 100 * u16::from(drive.position) % 255 > 127);
+        let timeout = drive.params[Param::Timeout as usize];
+        add(&mut self.bus_at_timeout, ruling == b"bus" && drive.age == timeout);
+        add(&mut self.backup_past_timeout, ruling == b"backup" && drive.age == timeout + 1);
+        let mut shown = 0;
+        for (bit, digit) in status.iter().rev().enumerate() {
+            match digit {
+                b'1' => self.set[bit] += 1,
+                _ => self.clear[bit] += 1,
+            }
+            shown |= u8::from(*digit == b'1') << bit;
+        }
+        add(&mut self.other_status, shown != drive.last.status);
+        true
+    }
 }
 
 fn add(count: &mut u64, met: bool) {
@@ -145,6 +240,33 @@ impl HallCover {
         self.silent += silent as u64;
         self.report += (drives - broken - silent) as u64;
         add(&mut self.mixed_row, broken > 0 && broken < drives);
+    }
+
+    /// A page call: what it was refused by or 0, and the page after it.
+    pub fn page(&mut self, row: &[Drive], refusal: u8, page: &[u8]) {
+        let (drives, bytes) = (row.len(), page.len());
+        let needed = LINE * drives;
+        self.row(drives, refusal);
+        add(&mut self.page_14, refusal == 14);
+        add(&mut self.page_fit_14_17, refusal == 14 && bytes < needed);
+        if refusal == 17 {
+            self.page_17 += 1;
+            add(&mut self.page_of_0_bytes, bytes == 0);
+            add(&mut self.page_one_shorter, bytes + 1 == needed);
+            add(&mut self.page_28_each, drives > 1 && bytes == 28 * drives);
+        }
+        if refusal != 0 {
+            return;
+        }
+        add(&mut self.page_exact, bytes == needed);
+        add(&mut self.page_longer, bytes > needed);
+        add(&mut self.page_one_longer, bytes == needed + 1);
+        add(&mut self.page_far_longer, bytes >= needed + 2 * LINE);
+        add(&mut self.page_of_1, drives == 1);
+        add(&mut self.page_of_64, drives == 64);
+        let lines = row.iter().zip(page.chunks(LINE));
+        let well_formed = lines.filter(|(drive, line)| self.lines.line(drive, line)).count();
+        add(&mut self.mixed_page, well_formed > 0 && well_formed < drives);
     }
 
     fn row(&mut self, drives: usize, refusal: u8) {

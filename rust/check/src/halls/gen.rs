@@ -1,15 +1,17 @@
 //! Random halls and the calls that they live through. The same seed gives the same ones.
 
 use crate::gen::{Bytes, Gen};
+use crate::hall::LINE;
 use crate::model::Model;
 use crate::subject::Subject;
 use damper::Drive;
 
-/// A call on a hall, with the length of the row that is lent for its answers.
+/// A call on a hall, with the length of the row that is lent for its answers, or of the page.
 #[derive(Clone, Debug)]
 pub enum Call {
     Event { list: Vec<u32>, bytes: Bytes, places: usize },
     Tick { places: usize },
+    Page { bytes: usize },
 }
 
 pub struct HallGen {
@@ -38,7 +40,7 @@ impl HallGen {
             _ => 1 + rng.below(64),
         };
         let calls = match rng.below(8) {
-            _ if drives == 0 || drives > 64 => 1 + rng.below(120),
+            _ if drives == 0 || drives > 64 => 1 + rng.below(300),
             0..4 => 10 + rng.below(100),
             4..7 => 100 + rng.below(400),
             _ => 500 + rng.below(2000),
@@ -56,6 +58,9 @@ impl HallGen {
     /// The next call, the hall being as in `row` or about so.
     pub fn call(&mut self, row: &[Drive]) -> Call {
         let rng = &mut self.gen.rng;
+        if rng.once_in(if (1..=64).contains(&row.len()) { 12 } else { 6 }) {
+            return Call::Page { bytes: self.page(row.len()) };
+        }
         if self.burst > 0 {
             self.burst -= 1;
         } else if rng.once_in(24) {
@@ -89,8 +94,8 @@ impl HallGen {
     fn list(&mut self, drives: u32) -> Vec<u32> {
         let rng = &mut self.gen.rng;
         let entries = match rng.below(64) {
-            0..4 => 0,
-            4..20 => 1,
+            0..6 => 0,
+            6..20 => 1,
             20..40 => 1 + rng.below(8),
             40..50 => 1 + rng.below(64),
             50..54 => 64,
@@ -139,6 +144,23 @@ impl HallGen {
             2..12 => needed,
             12..23 => needed + 1 + rng.below(8) as usize,
             _ => 256 + rng.below(9) as usize,
+        }
+    }
+
+    /// The length of a page for so many drives.
+    fn page(&mut self, drives: usize) -> usize {
+        let rng = &mut self.gen.rng;
+        let needed = LINE * drives;
+        match rng.below(32) {
+            0 => 0,
+            1 | 2 => needed.saturating_sub(1),
+            // The line feeds not counted.
+            3 | 4 => needed - drives,
+            5 | 6 => rng.below(needed.max(1) as u32) as usize,
+            7..16 => needed,
+            16..20 => needed + 1,
+            20..28 => needed + 1 + rng.below(4 * LINE as u32) as usize,
+            _ => 64 * LINE + rng.below(8 * LINE as u32) as usize,
         }
     }
 }

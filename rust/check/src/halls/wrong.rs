@@ -5,6 +5,7 @@
 //! the events other than a tick, none leaves or answers anything else the second time, as a test of
 //! `tests/hall.rs` sees.
 
+use super::gen::Call;
 use super::{first_failure, Failed};
 use crate::check::Breach;
 use crate::compare::Ask;
@@ -46,11 +47,15 @@ impl fmt::Display for Caught {
     }
 }
 
-/// A wrong hall, by each means on its own.
+/// A wrong hall, by each means on its own. One that a page gives away is not asked for demand 3: a page is in
+/// no share.
 pub fn catch(hall: &dyn Hall, seed: u64, calls: u64) -> Caught {
     let failed = |ask| first_failure(hall, seed, calls, ask, None).err();
+    let by_calls = failed(Ask::Equality);
+    let by_page = by_calls.as_ref().is_some_and(|by| matches!(by.calls.last(), Some(Call::Page { .. })));
+    let by_demand_3 = if by_page { None } else { failed(Ask::Demand3) };
     Caught {
-        by_calls: failed(Ask::Equality).map(|Failed { done, .. }| done),
-        by_demand_3: failed(Ask::Demand3).map(|Failed { done, breach, .. }| (done, breach)),
+        by_calls: by_calls.map(|Failed { done, .. }| done),
+        by_demand_3: by_demand_3.map(|Failed { done, breach, .. }| (done, breach)),
     }
 }
