@@ -78,7 +78,7 @@ AFTER = """  -- the page after the call
   zs₁ = pageAfter ys cs
 
   len′ : {n : ℕ} → Lines ys cs n → length zs₁ ≡ length cs
-  len′ {n} w = ap length (sym (page-end ys cs w n refl)) ∙ page-by-length ys cs w n (omega arith)
+  len′ w = page-length ys cs
 """
 
 LAWS = """      abbrev Row₁ : Upto n → List ℕ

@@ -897,7 +897,7 @@ use Rattle.line.specs.Line.{Written}
 use Rattle.damper.proofs.Drive as T
 use Rattle.damper.proofs.Drive.Laws as T′
 use Rattle.shift.specs.Shift.{lineOf, pageRefusal, pageAfter}
-use Rattle.shift.specs.Laws.{line-length, Lines, lines-fit, pageBy, page-start, page-by-length, page-turn, page-end}
+use Rattle.shift.specs.Laws.{line-length, Lines, lines-fit, pageBy, page-start, page-by-length, page-turn, page-end, page-length}
 use Rattle.hall.specs.Hall.{Call, give, tick, callRefusal, Turn, tickBytes, turnsOf, at, rowAfter, tickNumber, answersAfter}
 use Rattle.hall.specs.Laws.{Turns, give-turns, tick-turns, turns-most, row-length, rowBy, answersBy, row-start, answers-start, row-by-length, answers-by-length, row-turn, answers-turn, row-end, answers-end, answers-end-length}
 """

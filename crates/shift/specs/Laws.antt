@@ -2,18 +2,20 @@
 use mathlib.Core.Path.{_≡_, refl, sym, ap, _∙_}
 use mathlib.Core.Bool.{Bool, true, false}
 use mathlib.Core.List.{List, [], _∷_, _++_, append-assoc, append-nil}
-use Prim.Native.Nat.{ℕ, zero, suc, _+_, _-_, _*_, _≤_, _<_, min}
+use Prim.Native.Nat.{ℕ, zero, suc, _+_, _-_, _*_, _/_, _%_, _≤_, _<_}
 use native.Mathlib.Omega.{arith}
-use native.Mathlib.Nat.{not-suc-le-zero, le-of-suc-le-suc, sub-zero, zero-sub, suc-sub-suc, add-zero, zero-add, add-assoc}
+use native.Mathlib.Nat.{not-suc-le-zero, le-of-suc-le-suc, sub-zero, zero-sub, suc-sub-suc, div-one, div-div-eq-div-mul, add-zero, zero-add, add-assoc}
 use native.Mathlib.Numerals.{add-one, one-add}
 use lib.Dec.{ltb, eqb}
-use borrow.Author.Tests.{ltb-false, eqb-true}
+use borrow.Author.Tests.{ltb-false, eqb-true, ne-eqb}
 use lib.ListN.{length, take, drop, length-append, length-take, length-drop, length-replicate}
-use lib.Seq.{drop-append-le, drop-drop, take-suc, take-length, length-take-le, take-at, drop-at}
+use lib.Seq.{drop-append-le, drop-drop, take-suc, take-length, length-take-le, take-at, drop-at, split-at}
 use Rattle.numbers.specs.Numbers.{pick}
 use Rattle.numbers.specs.Laws.{passed, cases}
 use Rattle.line.specs.Line.{decimal, writeAt}
-use Rattle.rules.specs.Rank.{Source}
+use Rattle.line.specs.Laws.{decimal-length}
+use Rattle.motion.specs.Motion.{toPercent}
+use Rattle.rules.specs.Rank.{Source, backup, bus, tool, hand, run, forcing, fault}
 use Rattle.damper.specs.declared.Drive.{Drive}
 use Rattle.damper.specs.Record.{freshDrive}
 use Rattle.damper.specs.WellFormed.{wellFormed}
@@ -23,13 +25,13 @@ use Rattle.shift.specs.Shift as S
 
 -- A field has as many columns as it is given.
 
-pub right-length : (columns : ℕ) (text : List ℕ) → length (S.right columns text) ≡ columns
+pub right-length : (columns : ℕ) (t : List ℕ) → length (S.right columns t) ≡ columns
 unfolding S.right
-right-length columns text = simp (length-drop, length-append, length-replicate) (omega arith)
+right-length columns t = simp (length-drop, length-append, length-replicate) (omega arith)
 
-pub left-length : (columns : ℕ) (text : List ℕ) → length (S.left columns text) ≡ columns
+pub left-length : (columns : ℕ) (t : List ℕ) → length (S.left columns t) ≡ columns
 unfolding S.left
-left-length columns text = simp (length-take, length-append, length-replicate) (omega arith)
+left-length columns t = simp (length-take, length-append, length-replicate) (omega arith)
 
 pub binary-length : (digits n : ℕ) → length (S.binary digits n) ≡ digits
 unfolding S.binary
@@ -57,11 +59,59 @@ drop-blanks zero n = rw (sub-zero n) refl
 drop-blanks (suc k) zero = rw (zero-sub (suc k)) refl
 drop-blanks (suc k) (suc n) = rw (suc-sub-suc n k) (drop-blanks k n)
 
-pub right-is : (columns : ℕ) (text : List ℕ) → length text ≤ columns → S.right columns text ≡ S.blanks (columns - length text) ++ text
+pub right-is : (columns : ℕ) (t : List ℕ) → length t ≤ columns → S.right columns t ≡ S.blanks (columns - length t) ++ t
 unfolding S.right
-right-is columns text h =
-    drop-append-le (length text) (S.blanks columns) text (rw (length-replicate {A = ℕ} columns 32) h)
-    ∙ ap (λ (l : List ℕ). l ++ text) (drop-blanks (length text) columns)
+right-is columns t h =
+    drop-append-le (length t) (S.blanks columns) t (rw (length-replicate {A = ℕ} columns 32) h)
+    ∙ ap (λ (l : List ℕ). l ++ t) (drop-blanks (length t) columns)
+
+-- so a number below 100 is shown whole in 2 columns, a byte and its percent in 3
+pub number-shown : (number : ℕ) → number < 100 → S.right 2 (decimal number) ≡ S.blanks (2 - length (decimal number)) ++ decimal number
+number-shown number h = right-is 2 (decimal number) (decimal-length 2 number (omega arith) (omega arith))
+
+pub byte-shown : (v : ℕ) → v < 256 → S.right 3 (decimal v) ≡ S.blanks (3 - length (decimal v)) ++ decimal v
+byte-shown v h = right-is 3 (decimal v) (decimal-length 3 v (omega arith) (omega arith))
+
+pub percent-shown : (p : ℕ) → p < 256 → S.right 3 (decimal (toPercent p)) ≡ S.blanks (3 - length (decimal (toPercent p))) ++ decimal (toPercent p)
+unfolding toPercent
+percent-shown p h = byte-shown (toPercent p) (omega arith)
+
+-- each name has a blank behind it at least
+pub name-shown : (s : Source) → S.left 8 (S.nameOf s) ≡ S.nameOf s ++ S.blanks (8 - length (S.nameOf s))
+unfolding S.left
+name-shown backup = refl
+name-shown bus = refl
+name-shown tool = refl
+name-shown hand = refl
+name-shown run = refl
+name-shown forcing = refl
+name-shown fault = refl
+
+-- binary digits read from the first on
+abbrev pub read : ℕ → List ℕ → ℕ
+read n [] = n
+read n (digit ∷ digits) = read (2 * n + (digit - 48)) digits
+
+digit-read : (x : ℕ) → 48 + x - 48 ≡ x
+digit-read x = omega arith
+
+-- the lowest digit of a number less its first `w` ones, and the others
+halved : (n w : ℕ) → n / w ≡ n / w % 2 + 2 * (n / (w * 2))
+halved n w = rw (← (div-div-eq-div-mul n w 2)) (omega arith)
+
+-- eight numbers, each the next digit of the one before
+joined : (n a b c d e f g i j k l m o p q : ℕ)
+    → n ≡ i + 2 * a → a ≡ j + 2 * b → b ≡ k + 2 * c → c ≡ l + 2 * d → d ≡ m + 2 * e → e ≡ o + 2 * f → f ≡ p + 2 * g → g ≡ q
+    → 2 * (2 * (2 * (2 * (2 * (2 * (2 * q + p) + o) + m) + l) + k) + j) + i ≡ n
+joined n a b c d e f g i j k l m o p q s t u v w x y z = omega arith
+
+pub binary-read : (n : ℕ) → n < 256 → read 0 (S.binary 8 n) ≡ n
+unfolding S.binary
+binary-read n h =
+    rw (div-one n)
+    (simp digit-read
+    (joined n (n / 2) (n / 4) (n / 8) (n / 16) (n / 32) (n / 64) (n / 128) _ _ _ _ _ _ _ _
+    (rw (div-one n) at (halved n 1)) (halved n 2) (halved n 4) (halved n 8) (halved n 16) (halved n 32) (halved n 64) (omega arith)))
 
 -- The lines of a row: of two parts of it, how long they are, and with one drive more.
 
@@ -139,3 +189,42 @@ module _ (row : List Drive) (page : List ℕ) where
         (cases (eqb (S.pageRefusal (length row) (length page)) 0)
         (λ h. rw (h, take-length row, lines-length 0 row) refl)
         (λ h. rw h (sym page-start)))
+
+-- What the page is after the call: as long as before, each line in its place, the bytes behind the last as they were, and refused, the
+-- whole page as it was.
+module _ (row : List Drive) (page : List ℕ) where
+  abbrev stop : ℕ
+  stop = pick (eqb (S.pageRefusal (length row) (length page)) 0) (length row) 0
+
+  pub page-length : length (S.pageAfter row page) ≡ length page
+  page-length = ap length (sym (page-end row page {stop = stop} refl stop refl)) ∙ page-by-length row page {stop = stop} refl stop (omega arith)
+
+  pub page-refused : (S.pageRefusal (length row) (length page) ≡ 0 → ⊥) → S.pageAfter row page ≡ page
+  unfolding S.pageAfter
+  page-refused h = rw (ne-eqb _ 0 h) refl
+
+  module _ (accepted : S.pageRefusal (length row) (length page) ≡ 0) where
+    lines : S.pageAfter row page ≡ S.linesFrom 0 row ++ drop (29 * length row) page
+    unfolding S.pageAfter
+    lines = rw (accepted, lines-length 0 row) refl
+
+    -- the lines before that of drive `i`, that line, and those behind it
+    lines-around : (i : ℕ) → i < length row
+        → S.linesFrom 0 row ≡ S.linesFrom 0 (take i row) ++ (S.lineOf i (at row i) ++ S.linesFrom (i + 1) (drop (suc i) row))
+    unfolding S.linesFrom
+    lines-around i h =
+        ap (S.linesFrom 0) (split-at row i freshDrive h)
+        ∙ rw (lines-append 0 (take i row), length-take-le i row (omega arith), zero-add i) refl
+
+    pub page-line : (i : ℕ) → i < length row → take 29 (drop (29 * i) (S.pageAfter row page)) ≡ S.lineOf i (at row i)
+    page-line i h =
+        let front : List ℕ = S.linesFrom 0 (take i row) in
+        let line : List ℕ = S.lineOf i (at row i) in
+        let back : List ℕ = S.linesFrom (i + 1) (drop (suc i) row) in
+        let rest : List ℕ = drop (29 * length row) page in
+        let l : length front ≡ 29 * i = lines-length 0 (take i row) ∙ ap (λ (n : ℕ). 29 * n) (length-take-le i row (omega arith)) in
+        rw (lines, lines-around i h, append-assoc front, append-assoc line, drop-at front (line ++ (back ++ rest)) (29 * i) l)
+        (take-at line (back ++ rest) 29 (line-length i (at row i)))
+
+    pub page-rest : drop (29 * length row) (S.pageAfter row page) ≡ drop (29 * length row) page
+    page-rest = rw lines (drop-at (S.linesFrom 0 row) _ (29 * length row) (lines-length 0 row))

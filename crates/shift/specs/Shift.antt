@@ -1,5 +1,4 @@
 -- Document 02, W-203: the shift page, "a printed page, a line for each drive, exactly 28 columns and a line feed".
-use mathlib.Core.Bool.{Bool}
 use mathlib.Core.List.{List, [], _∷_, _++_, map}
 use Prim.Native.Nat.{ℕ, zero, suc, _+_, _*_, _/_, _%_, _^_}
 use lib.Dec.{ltb, eqb}
@@ -10,6 +9,7 @@ use Rattle.rules.specs.Rank.{Source, backup, bus, tool, hand, run, forcing, fau
 use Rattle.damper.specs.declared.Drive.{Drive}
 use Rattle.damper.specs.WellFormed.{wellFormed}
 use Rattle.damper.specs.Tick.{commander, statusOf}
+use Rattle.line.specs.Text.{text}
 use Rattle.line.specs.Line.{decimal}
 use Rattle.hall.specs.Hall.{badRow}
 
@@ -18,11 +18,11 @@ blanks columns = replicate columns 32
 
 -- a text "to the right" in so many columns: blanks before it, and as many columns as it has taken off their front
 unfoldable pub right : ℕ → List ℕ → List ℕ
-right columns text = drop (length text) (blanks columns ++ text)
+right columns t = drop (length t) (blanks columns ++ t)
 
 -- "to the left"
 unfoldable pub left : ℕ → List ℕ → List ℕ
-left columns text = take columns (text ++ blanks columns)
+left columns t = take columns (t ++ blanks columns)
 
 -- a number as so many "binary digits, highest bit first"
 unfoldable pub binary : ℕ → ℕ → List ℕ
@@ -31,13 +31,13 @@ binary (suc bit) n = (48 + n / 2 ^ bit % 2) ∷ binary bit n
 
 -- "(fault, forced, run, hand, tool, bus, backup)"
 abbrev pub nameOf : Source → List ℕ
-nameOf fault = 102 ∷ 97 ∷ 117 ∷ 108 ∷ 116 ∷ []
-nameOf forcing = 102 ∷ 111 ∷ 114 ∷ 99 ∷ 101 ∷ 100 ∷ []
-nameOf run = 114 ∷ 117 ∷ 110 ∷ []
-nameOf hand = 104 ∷ 97 ∷ 110 ∷ 100 ∷ []
-nameOf tool = 116 ∷ 111 ∷ 111 ∷ 108 ∷ []
-nameOf bus = 98 ∷ 117 ∷ 115 ∷ []
-nameOf backup = 98 ∷ 97 ∷ 99 ∷ 107 ∷ 117 ∷ 112 ∷ []
+nameOf fault = text "fault"
+nameOf forcing = text "forced"
+nameOf run = text "run"
+nameOf hand = text "hand"
+nameOf tool = text "tool"
+nameOf bus = text "bus"
+nameOf backup = text "backup"
 
 -- the fields behind the number: "position 3, percent 3, all to the right; ruling commander 8, to the left ..; status as 8 binary
 -- digits"

@@ -58,7 +58,7 @@ use Rattle.line.specs.Line.{Written}
 use Rattle.damper.proofs.Drive as T
 use Rattle.damper.proofs.Drive.Laws as T′
 use Rattle.shift.specs.Shift.{lineOf, pageRefusal, pageAfter}
-use Rattle.shift.specs.Laws.{line-length, Lines, lines-fit, pageBy, page-start, page-by-length, page-turn, page-end}
+use Rattle.shift.specs.Laws.{line-length, Lines, lines-fit, pageBy, page-start, page-by-length, page-turn, page-end, page-length}
 use Rattle.hall.specs.Hall.{at}
 use Rattle.shift.proofs.page_refusal as page-refusal
 use Rattle.shift.proofs.page_refusal.Symbol as page-refusal-def
@@ -149,7 +149,7 @@ module _ {M : Type 1} (𝓤 : URA M) (H : Heap 𝓤) (A : Atoms 𝓤) (W : Given
   zs₁ = pageAfter ys cs
 
   len′ : {n : ℕ} → Lines ys cs n → length zs₁ ≡ length cs
-  len′ {n} w = ap length (sym (page-end ys cs w n refl)) ∙ page-by-length ys cs w n (omega arith)
+  len′ w = page-length ys cs
 
   -- what each function is passed, and what it ensures
   abbrev to-page-refusal : Judge 𝓤 H A mem run .Ghost

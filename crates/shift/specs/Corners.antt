@@ -1,0 +1,120 @@
+-- Lines, pages and refusals, corner by corner, by computation.
+use mathlib.Core.Path.{_≡_, refl}
+use mathlib.Core.List.{List, [], _∷_, _++_, map}
+use Prim.Native.Nat.{ℕ}
+use Prim.Native.String.{String}
+use lib.ListN.{replicate}
+use Rattle.event.specs.Event.{event, bytesOf}
+use Rattle.answer.specs.declared.Answer.the-variants.{Tick}
+use Rattle.damper.specs.declared.Drive.{Drive}
+use Rattle.damper.specs.Record.{freshDrive, run, withCounts, withPosition, withRun}
+use Rattle.damper.specs.Step.{stepOf}
+use Rattle.damper.specs.Carry.{outcomes, driveAfter}
+use Rattle.damper.specs.Closed.{computation}
+use Rattle.line.specs.Text.{text}
+use Rattle.line.specs.Line.{decimal, digitsWithin}
+use Rattle.hall.specs.Hall.{tickBytes}
+use Rattle.shift.specs.Shift.{right, left, binary, lineOf, linesFrom, pageRefusal, pageAfter}
+
+-- the fresh drive after events of a kind with a, b and c, and a tick
+abbrev after : List (List ℕ) → Drive
+after events = driveAfter freshDrive (outcomes stepOf freshDrive (events ++ (tickBytes ∷ [])))
+
+abbrev bytes : ℕ → ℕ → ℕ → ℕ → List ℕ
+bytes kind a b c = bytesOf (event kind a b c)
+
+-- a run of a kind that there is not
+abbrev broken : Drive
+broken = withRun (withPosition freshDrive 200) (run 4 1)
+
+-- the age of the setpoint is Timeout
+abbrev lastTick : Drive
+lastTick = withCounts (after (bytes 2 128 0 0 ∷ [])) 1860 0
+
+-- a drive and its number, and its line
+pub record Shown : Type 0 where
+  pub number : ℕ
+  pub drive : Drive
+  pub line : String
+
+abbrev shows : ℕ → Drive → String → Shown
+shows number d line = record { number = number; drive = d; line = line }
+
+-- each of the seven commanders, and every bit of the status
+abbrev pub shown : List Shown
+shown =
+    shows 0 freshDrive " 0   0   0 backup   00100000\n"
+    ∷ shows 1 (after (bytes 2 128 0 0 ∷ [])) " 1   5   2 bus      00000000\n"
+    ∷ shows 2 (after (bytes 3 51 100 1 ∷ [])) " 2   5   2 tool     00100010\n"
+    ∷ shows 3 (after (bytes 5 1 200 0 ∷ [])) " 3   5   2 hand     00100010\n"
+    ∷ shows 4 (after (bytes 6 0 0 0 ∷ [])) " 4   0   0 run      00100100\n"
+    ∷ shows 5 (after (bytes 4 3 0 0 ∷ [])) " 5   5   2 forced   00110000\n"
+    ∷ shows 6 (after (bytes 7 1 0 0 ∷ [])) " 6   0   0 fault    00100001\n"
+    -- a synchronization at a restart
+    ∷ shows 7 (after (bytes 8 122 0 2 ∷ bytes 9 0 0 0 ∷ [])) " 7   5   2 run      00101000\n"
+    -- the highest of several
+    ∷ shows 8 (after (bytes 2 128 0 0 ∷ bytes 3 51 100 1 ∷ bytes 5 1 200 0 ∷ bytes 4 2 0 0 ∷ [])) " 8   0   0 forced   00010010\n"
+    -- numbers of one digit and of two, positions and percents of three
+    ∷ shows 9 (withPosition freshDrive 9) " 9   9   4 backup   00100000\n"
+    ∷ shows 10 (withPosition freshDrive 99) "10  99  39 backup   00100000\n"
+    ∷ shows 62 (withPosition freshDrive 254) "62 254 100 backup   00100000\n"
+    ∷ shows 63 (withPosition freshDrive 255) "63 255 100 backup   00100000\n"
+    -- not well formed
+    ∷ shows 7 broken " 7 --- --- -------- --------\n"
+    ∷ shows 63 broken "63 --- --- -------- --------\n"
+    -- the last tick of a setpoint is still to come
+    ∷ shows 0 lastTick " 0   5   2 bus      00000000\n"
+    ∷ []
+
+pub lines-shown : map (λ s. lineOf (s .number) (s .drive)) shown ≡ map (λ s. text (s .line)) shown
+unfolding computation decimal digitsWithin right left binary lineOf
+lines-shown = refl
+
+-- "the record as it is": the bus rules the page, and backup the tick that follows
+pub page-before-ageing : stepOf lastTick tickBytes .answer ≡ Tick 0 0 2
+unfolding computation
+page-before-ageing = refl
+
+-- drives, bytes of the page, and what refuses it
+pub record Corner : Type 0 where
+  pub drives : ℕ
+  pub bytes : ℕ
+  pub number : ℕ
+
+abbrev corner : ℕ → ℕ → ℕ → Corner
+corner drives b number = record { drives = drives; bytes = b; number = number }
+
+abbrev pub corners : List Corner
+corners =
+    -- rows of none and of 65, with room and without: 14 before 17
+    corner 0 0 14
+    ∷ corner 0 29 14
+    ∷ corner 65 1885 14
+    ∷ corner 65 0 14
+    -- one byte short, just enough, one to spare, of one drive and of 64
+    ∷ corner 1 28 17
+    ∷ corner 1 29 0
+    ∷ corner 1 30 0
+    ∷ corner 64 1855 17
+    ∷ corner 64 1856 0
+    ∷ corner 64 1857 0
+    -- 28 bytes for each, and none
+    ∷ corner 64 1792 17
+    ∷ corner 1 0 17
+    ∷ []
+
+pub corners-refused : map (λ c. pageRefusal (c .drives) (c .bytes)) corners ≡ map (λ c. c .number) corners
+unfolding pageRefusal
+corners-refused = refl
+
+-- a page of two lines with three bytes behind them, and one that is a byte too short
+abbrev row : List Drive
+row = after (bytes 2 128 0 0 ∷ []) ∷ broken ∷ []
+
+pub page-written : pageAfter row (replicate 61 200) ≡ text " 0   5   2 bus      00000000\n 1 --- --- -------- --------\n" ++ replicate 3 200
+unfolding computation decimal digitsWithin right left binary lineOf linesFrom pageRefusal pageAfter
+page-written = refl
+
+pub page-short : pageAfter row (replicate 57 200) ≡ replicate 57 200
+unfolding pageRefusal pageAfter
+page-short = refl
