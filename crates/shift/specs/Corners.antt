@@ -1,6 +1,6 @@
 -- Lines, pages and refusals, corner by corner, by computation.
 use mathlib.Core.Path.{_≡_, refl}
-use mathlib.Core.List.{List, [], _∷_, _++_, map}
+use mathlib.Core.List.{List, [], _∷_, _++_}
 use Prim.Native.Nat.{ℕ}
 use Prim.Native.String.{String}
 use lib.ListN.{replicate}
@@ -31,81 +31,77 @@ broken = withRun (withPosition freshDrive 200) (run 4 1)
 abbrev lastTick : Drive
 lastTick = withCounts (after (bytes 2 128 0 0 ∷ [])) 1860 0
 
--- a drive and its number, and its line
+-- a drive and its number have this line
 pub record Shown : Type 0 where
   pub number : ℕ
   pub drive : Drive
   pub line : String
+  pub is : lineOf number drive ≡ text line
 
-abbrev shows : ℕ → Drive → String → Shown
-shows number d line = record { number = number; drive = d; line = line }
+abbrev shows : (number : ℕ) (d : Drive) (line : String) → lineOf number d ≡ text line → Shown
+shows number d line e = record { number = number; drive = d; line = line; is = e }
 
 -- each of the seven commanders, and every bit of the status
-abbrev pub shown : List Shown
-shown =
-    shows 0 freshDrive " 0   0   0 backup   00100000\n"
-    ∷ shows 1 (after (bytes 2 128 0 0 ∷ [])) " 1   5   2 bus      00000000\n"
-    ∷ shows 2 (after (bytes 3 51 100 1 ∷ [])) " 2   5   2 tool     00100010\n"
-    ∷ shows 3 (after (bytes 5 1 200 0 ∷ [])) " 3   5   2 hand     00100010\n"
-    ∷ shows 4 (after (bytes 6 0 0 0 ∷ [])) " 4   0   0 run      00100100\n"
-    ∷ shows 5 (after (bytes 4 3 0 0 ∷ [])) " 5   5   2 forced   00110000\n"
-    ∷ shows 6 (after (bytes 7 1 0 0 ∷ [])) " 6   0   0 fault    00100001\n"
-    -- a synchronization at a restart
-    ∷ shows 7 (after (bytes 8 122 0 2 ∷ bytes 9 0 0 0 ∷ [])) " 7   5   2 run      00101000\n"
-    -- the highest of several
-    ∷ shows 8 (after (bytes 2 128 0 0 ∷ bytes 3 51 100 1 ∷ bytes 5 1 200 0 ∷ bytes 4 2 0 0 ∷ [])) " 8   0   0 forced   00010010\n"
-    -- numbers of one digit and of two, positions and percents of three
-    ∷ shows 9 (withPosition freshDrive 9) " 9   9   4 backup   00100000\n"
-    ∷ shows 10 (withPosition freshDrive 99) "10  99  39 backup   00100000\n"
-    ∷ shows 62 (withPosition freshDrive 254) "62 254 100 backup   00100000\n"
-    ∷ shows 63 (withPosition freshDrive 255) "63 255 100 backup   00100000\n"
-    -- not well formed
-    ∷ shows 7 broken " 7 --- --- -------- --------\n"
-    ∷ shows 63 broken "63 --- --- -------- --------\n"
-    -- the last tick of a setpoint is still to come
-    ∷ shows 0 lastTick " 0   5   2 bus      00000000\n"
-    ∷ []
-
-pub lines-shown : map (λ s. lineOf (s .number) (s .drive)) shown ≡ map (λ s. text (s .line)) shown
+pub shown : List Shown
 unfolding computation decimal digitsWithin right left binary lineOf
-lines-shown = refl
+shown =
+    shows 0 freshDrive " 0   0   0 backup   00100000\n" refl
+    ∷ shows 1 (after (bytes 2 128 0 0 ∷ [])) " 1   5   2 bus      00000000\n" refl
+    ∷ shows 2 (after (bytes 3 51 100 1 ∷ [])) " 2   5   2 tool     00100010\n" refl
+    ∷ shows 3 (after (bytes 5 1 200 0 ∷ [])) " 3   5   2 hand     00100010\n" refl
+    ∷ shows 4 (after (bytes 6 0 0 0 ∷ [])) " 4   0   0 run      00100100\n" refl
+    ∷ shows 5 (after (bytes 4 3 0 0 ∷ [])) " 5   5   2 forced   00110000\n" refl
+    ∷ shows 6 (after (bytes 7 1 0 0 ∷ [])) " 6   0   0 fault    00100001\n" refl
+    -- a synchronization at a restart
+    ∷ shows 7 (after (bytes 8 122 0 2 ∷ bytes 9 0 0 0 ∷ [])) " 7   5   2 run      00101000\n" refl
+    -- the highest of several
+    ∷ shows 8 (after (bytes 2 128 0 0 ∷ bytes 3 51 100 1 ∷ bytes 5 1 200 0 ∷ bytes 4 2 0 0 ∷ [])) " 8   0   0 forced   00010010\n" refl
+    -- numbers of one digit and of two, positions and percents of three
+    ∷ shows 9 (withPosition freshDrive 9) " 9   9   4 backup   00100000\n" refl
+    ∷ shows 10 (withPosition freshDrive 99) "10  99  39 backup   00100000\n" refl
+    ∷ shows 62 (withPosition freshDrive 254) "62 254 100 backup   00100000\n" refl
+    ∷ shows 63 (withPosition freshDrive 255) "63 255 100 backup   00100000\n" refl
+    -- not well formed
+    ∷ shows 7 broken " 7 --- --- -------- --------\n" refl
+    ∷ shows 63 broken "63 --- --- -------- --------\n" refl
+    -- the last tick of a setpoint is still to come
+    ∷ shows 0 lastTick " 0   5   2 bus      00000000\n" refl
+    ∷ []
 
 -- "the record as it is": the bus rules the page, and backup the tick that follows
 pub page-before-ageing : stepOf lastTick tickBytes .answer ≡ Tick 0 0 2
 unfolding computation
 page-before-ageing = refl
 
--- drives, bytes of the page, and what refuses it
+-- a page of so many bytes for so many drives is refused by this, or taken
 pub record Corner : Type 0 where
   pub drives : ℕ
-  pub bytes : ℕ
+  pub room : ℕ
   pub number : ℕ
+  pub is : pageRefusal drives room ≡ number
 
-abbrev corner : ℕ → ℕ → ℕ → Corner
-corner drives b number = record { drives = drives; bytes = b; number = number }
+abbrev corner : (drives room number : ℕ) → pageRefusal drives room ≡ number → Corner
+corner drives room number e = record { drives = drives; room = room; number = number; is = e }
 
-abbrev pub corners : List Corner
+pub corners : List Corner
+unfolding pageRefusal
 corners =
     -- rows of none and of 65, with room and without: 14 before 17
-    corner 0 0 14
-    ∷ corner 0 29 14
-    ∷ corner 65 1885 14
-    ∷ corner 65 0 14
+    corner 0 0 14 refl
+    ∷ corner 0 29 14 refl
+    ∷ corner 65 1885 14 refl
+    ∷ corner 65 0 14 refl
     -- one byte short, just enough, one to spare, of one drive and of 64
-    ∷ corner 1 28 17
-    ∷ corner 1 29 0
-    ∷ corner 1 30 0
-    ∷ corner 64 1855 17
-    ∷ corner 64 1856 0
-    ∷ corner 64 1857 0
+    ∷ corner 1 28 17 refl
+    ∷ corner 1 29 0 refl
+    ∷ corner 1 30 0 refl
+    ∷ corner 64 1855 17 refl
+    ∷ corner 64 1856 0 refl
+    ∷ corner 64 1857 0 refl
     -- 28 bytes for each, and none
-    ∷ corner 64 1792 17
-    ∷ corner 1 0 17
+    ∷ corner 64 1792 17 refl
+    ∷ corner 1 0 17 refl
     ∷ []
-
-pub corners-refused : map (λ c. pageRefusal (c .drives) (c .bytes)) corners ≡ map (λ c. c .number) corners
-unfolding pageRefusal
-corners-refused = refl
 
 -- a page of two lines with three bytes behind them, and one that is a byte too short
 abbrev row : List Drive
