@@ -40,6 +40,7 @@ static damper_replayed (*volatile replay)(damper_drive, const uint8_t *, size_t,
 static uint8_t (*volatile hall_event)(damper_drive *, size_t, const uint32_t *, size_t, const uint8_t *, size_t, uint8_t *,
                                       size_t);
 static uint8_t (*volatile hall_tick)(damper_drive *, size_t, uint32_t *, size_t);
+static uint8_t (*volatile hall_page)(const damper_drive *, size_t, uint8_t *, size_t);
 
 static damper_drive drive;
 static damper_stepped stepped;
@@ -51,7 +52,7 @@ static uint32_t codes[ROOM];
 static size_t records;
 static damper_drive row[DAMPER_HALL_MOST];
 static uint32_t list[DAMPER_HALL_MOST], numbers[DAMPER_HALL_MOST];
-static uint8_t answers[DAMPER_HALL_MOST], refusal;
+static uint8_t answers[DAMPER_HALL_MOST], page[DAMPER_HALL_MOST * DAMPER_HALL_LINE], refusal;
 
 static void call_fresh(void) { drive = fresh(); }
 static void call_well_formed(void) { formed = well_formed(drive); }
@@ -66,6 +67,7 @@ static void call_hall_event(void)
     refusal = hall_event(row, DAMPER_HALL_MOST, list, DAMPER_HALL_MOST, event, DAMPER_EVENT_LENGTH, answers, DAMPER_HALL_MOST);
 }
 static void call_hall_tick(void) { refusal = hall_tick(row, DAMPER_HALL_MOST, numbers, DAMPER_HALL_MOST); }
+static void call_hall_page(void) { refusal = hall_page(row, DAMPER_HALL_MOST, page, sizeof page); }
 
 #define POINT(pointer, function) pointer = archive ? function : (__typeof__(&function))nothing
 
@@ -79,6 +81,7 @@ static void point(bool archive)
     POINT(replay, damper_replay);
     POINT(hall_event, damper_hall_event);
     POINT(hall_tick, damper_hall_tick);
+    POINT(hall_page, damper_hall_page);
 }
 
 /* A hall of fresh drives, the last of them damaged. */
@@ -142,6 +145,7 @@ int main(void)
     measure("replay", call_replay, 1);
     measure("hall_event", call_hall_event, records);
     measure("hall_tick", call_hall_tick, records);
+    measure("hall_page", call_hall_page, records);
     printf("; DAMPER_STACK is %d\n", DAMPER_STACK);
     if (deepest <= DAMPER_STACK)
         return 0;

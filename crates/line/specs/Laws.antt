@@ -4,11 +4,11 @@ use mathlib.Core.Bool.{Bool, true, false}
 use mathlib.Core.List.{List, [], _∷_, _++_, append-assoc, append-nil}
 use Prim.Native.Nat.{ℕ, zero, suc, _+_, _*_, _/_, _%_, _^_, _≤_, _<_}
 use native.Mathlib.Omega.{arith}
-use native.Mathlib.Nat.{pow-succ', add-assoc}
+use native.Mathlib.Nat.{pow-succ', add-assoc, add-zero}
 use native.Mathlib.Numerals.{add-one}
 use lib.Dec.{ltb}
 use borrow.Author.Tests.{lt-ltb, le-ltb, ltb-true, ltb-false}
-use lib.ListN.{length, take, drop, set, length-append}
+use lib.ListN.{length, take, drop, set, length-append, take-append-drop}
 use lib.Seq.{length-take-le, take-at, drop-at, drop-drop, set-split}
 use Rattle.numbers.specs.Laws.{cases}
 use Rattle.answer.specs.declared.Answer.the-variants.{No, Done, Par, At, Tick, Report}
@@ -114,6 +114,10 @@ decimal-length (suc (suc k)) n h l =
 -- a store is a write of one byte
 pub write-byte : (d : List ℕ) (at b : ℕ) → at < length d → set d at b ≡ L.writeAt d at (b ∷ [])
 write-byte d at b h = rw (set-split d at b, append-assoc, add-one)
+
+-- nothing written
+pub write-none : (d : List ℕ) (at : ℕ) → L.Written d d at at []
+write-none d at = record { place = omega arith; buffer = sym (rw (append-nil (take at d), add-zero at) (take-append-drop at d)) }
 
 -- one write after another is a write of both
 pub write-write : (d : List ℕ) (at : ℕ) (xs ys : List ℕ) → at + length xs ≤ length d

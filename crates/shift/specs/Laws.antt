@@ -49,11 +49,6 @@ line-length number d = go (wellFormed d)
 
 -- Nothing of a text is cut off that has no more columns than it is given.
 
-pub take-blanks : (k n : ℕ) → k ≤ n → take k (S.blanks n) ≡ S.blanks k
-take-blanks zero n h = refl
-take-blanks (suc k) zero h = absurd (not-suc-le-zero h)
-take-blanks (suc k) (suc n) h = ap (λ (l : List ℕ). 32 ∷ l) (take-blanks k n (le-of-suc-le-suc h))
-
 drop-blanks : (k n : ℕ) → drop k (S.blanks n) ≡ S.blanks (n - k)
 drop-blanks zero n = rw (sub-zero n) refl
 drop-blanks (suc k) zero = rw (zero-sub (suc k)) refl
