@@ -407,11 +407,12 @@ typedef struct {
     damper_drive row[DAMPER_HALL_MOST + 1];
     uint8_t answers[DAMPER_HALL_MOST + 6];
     uint32_t numbers[DAMPER_HALL_MOST + 6];
+    uint8_t page[(DAMPER_HALL_MOST + 1) * DAMPER_HALL_LINE];
 } hall;
 
 static hall now, was;
 
-#define UNSET 0x63 /* in each byte of answers and numbers, and in those of a drive that belong to no field */
+#define UNSET 0x63 /* in each byte of answers, numbers and the page, and in those of a drive that belong to no field */
 
 /* Every drive becomes this one. */
 static void fill_hall(damper_drive d)
@@ -461,6 +462,19 @@ static unsigned tick_hall(size_t drives, size_t places)
 {
     memcpy(&was, &now, sizeof now);
     return damper_hall_tick(now.row, drives, now.numbers, places);
+}
+
+static unsigned page_hall(size_t drives, size_t bytes)
+{
+    memcpy(&was, &now, sizeof now);
+    return damper_hall_page(now.row, drives, now.page, bytes);
+}
+
+/* Whether the page begins with these lines and is as it was behind them, and nothing else has changed. */
+static bool page_is(const char *lines)
+{
+    memcpy(was.page, lines, strlen(lines));
+    return untouched();
 }
 
 static const uint8_t a_tick[DAMPER_EVENT_LENGTH] = {DAMPER_MARK_0, DAMPER_MARK_1, DAMPER_KIND_TICK, 0, 0, 0};
@@ -652,6 +666,65 @@ static void hall_numbers(damper_drive fresh)
     }
 }
 
+/* The shift page: a line for each commander, a damaged drive, the status of the record as it is, and the refusals. */
+static void hall_page(damper_drive fresh)
+{
+    const size_t most = DAMPER_HALL_MOST, line = DAMPER_HALL_LINE;
+    const unsigned no_hall = DAMPER_HALL_REFUSAL_ROW, no_page = DAMPER_HALL_REFUSAL_PAGE;
+    CHECK(line == 29 && no_page == 17);
+
+    damper_drive damaged = fresh, last_tick = with_setpoint(fresh, 128);
+    damaged.commands.hand = 2;
+    damaged.position = 200;
+    last_tick.age = last_tick.params[DAMPER_PLACE_TIMEOUT];
+    last_tick.position = 254;
+    const damper_drive row[] = {
+        fresh,
+        with_setpoint(fresh, 128),
+        after(fresh, DAMPER_KIND_LTE_SETPOINT, DAMPER_LTE_PROPERTY(1), 50, DAMPER_LTE_OVERRIDE),
+        after(fresh, DAMPER_KIND_HAND, 1, 100, 0),
+        after(fresh, DAMPER_KIND_CALIBRATION, 0, 0, 0),
+        after(fresh, DAMPER_KIND_FORCING, DAMPER_FORCING_TO_255, 0, 0),
+        after(fresh, DAMPER_KIND_FAULT, 1, 0, 0),
+        damaged,
+        last_tick,
+        give(after(fresh, DAMPER_KIND_FORCING, DAMPER_FORCING_TO_255, 0, 0), DAMPER_KIND_TICK, 0, 0, 0).drive,
+        fresh,
+    };
+    const size_t drives = sizeof row / sizeof row[0];
+    fill_hall(fresh);
+    memcpy(now.row, row, sizeof row);
+    CHECK(page_hall(drives, sizeof now.page) == 0);
+    CHECK(page_is(" 0   0   0 backup   00100000\n"
+                  " 1   0   0 bus      00000000\n"
+                  " 2   0   0 tool     00100010\n"
+                  " 3   0   0 hand     00100010\n"
+                  " 4   0   0 run      00100100\n"
+                  " 5   0   0 forced   00110000\n"
+                  " 6   0   0 fault    00100001\n"
+                  " 7 --- --- -------- --------\n"
+                  " 8 254 100 bus      00000000\n"
+                  " 9   5   2 forced   00110000\n"
+                  "10   0   0 backup   00100000\n"));
+    /* The tick that follows is ruled by backup. */
+    damper_stepped s = damper_step(last_tick, a_tick, sizeof a_tick);
+    CHECK(damper_answer_rank(s.word, s.code) == DAMPER_RANK_BACKUP);
+
+    fill_hall(fresh);
+    CHECK(page_hall(1, line) == 0 && page_is(" 0   0   0 backup   00100000\n"));
+    CHECK(page_hall(0, sizeof now.page) == no_hall && untouched() && page_hall(0, 0) == no_hall && untouched());
+    CHECK(page_hall(most + 1, sizeof now.page) == no_hall && untouched() && page_hall(most + 1, 0) == no_hall && untouched());
+    CHECK(page_hall(SIZE_MAX, 0) == no_hall && untouched() && page_hall(SIZE_MAX / line + 1, 0) == no_hall && untouched());
+    CHECK(page_hall(1, 0) == no_page && untouched() && page_hall(1, line - 1) == no_page && untouched());
+    for (size_t many = 1; many <= most; many++) {
+        CHECK(page_hall(many, many * line - 1) == no_page && untouched());
+        CHECK(page_hall(many, many * (line - 1)) == no_page && untouched());
+        CHECK(page_hall(many, many * line) == 0);
+        CHECK(now.page[many * line - 1] == '\n' && now.page[many * line] == UNSET);
+        CHECK(now.page[(many - 1) * line + 1] == '0' + (many - 1) % 10);
+    }
+}
+
 static void null_pointers(damper_drive fresh)
 {
     uint8_t word = 9;
@@ -673,6 +746,8 @@ static void null_pointers(damper_drive fresh)
     CHECK(damper_hall_event(&fresh, 1, list, 1, NULL, 0, NULL, 0) == DAMPER_HALL_REFUSAL_CALL);
     CHECK(damper_hall_tick(NULL, 0, NULL, 0) == DAMPER_HALL_REFUSAL_ROW);
     CHECK(damper_hall_tick(&fresh, 1, NULL, 0) == DAMPER_HALL_REFUSAL_CALL && fresh.since == 0);
+    CHECK(damper_hall_page(NULL, 0, NULL, 0) == DAMPER_HALL_REFUSAL_ROW);
+    CHECK(damper_hall_page(&fresh, 1, NULL, 0) == DAMPER_HALL_REFUSAL_PAGE);
 }
 
 int main(void)
@@ -692,6 +767,7 @@ int main(void)
     hall_events(fresh);
     hall_refusals(fresh);
     hall_numbers(fresh);
+    hall_page(fresh);
     null_pointers(fresh);
     printf("header in %s: %u checks agree with the archives\n",
 #ifdef __cplusplus

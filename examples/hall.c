@@ -1,9 +1,9 @@
 /*
  * A host of a hall: it holds the records of three dampers in one row, gives events to those that a list names, ticks them
- * all each second and logs their reports.
+ * all each second, logs their reports, and prints the shift page at the end.
  *
  *     cc -I include examples/hall.c target/staticlib/libhost.a target/staticlib/libhall_event.a \
- *         target/staticlib/libhall_tick.a -o hall && ./hall
+ *         target/staticlib/libhall_tick.a target/staticlib/libhall_page.a -o hall && ./hall
  */
 #include "damper.h"
 
@@ -41,6 +41,14 @@ static void tick(int second)
     }
 }
 
+static void print_page(void)
+{
+    uint8_t page[DRIVES * DAMPER_HALL_LINE];
+    if (damper_hall_page(row, DRIVES, page, sizeof page))
+        return; /* never: there are 1 to 64 drives, and a line's bytes for each */
+    fwrite(page, 1, sizeof page, stdout);
+}
+
 int main(void)
 {
     const uint32_t all[] = {0, 1, 2}, outer[] = {0, 2}, middle[] = {1}, mistaken[] = {1, 3};
@@ -56,5 +64,7 @@ int main(void)
             give(middle, 1, DAMPER_KIND_FORCING, DAMPER_FORCING_NONE, 0, 0);
         tick(second);
     }
+    row[2].commands.hand = 2; /* as storage may damage a record */
+    print_page();
     return 0;
 }
