@@ -1,5 +1,6 @@
 -- Demand 3: what is read off a list of events, the claim, and its proof.
 pub mod Readings
+pub mod Closed
 pub mod Log
 pub mod Claim
 pub mod ReadLaws
@@ -8,4 +9,5 @@ pub mod Agree
 pub mod Waits
 pub mod Facts
 pub mod Theorem
+pub mod Standing
 pub mod LogLaws

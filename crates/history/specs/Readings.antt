@@ -10,11 +10,11 @@ use Rattle.table.specs.declared.Row.{Row}
 use Rattle.table.specs.Table.{rows, damperMode, startSynchronization, timeout, rate, low, high}
 use Rattle.event.specs.declared.Event.{Event}
 use Rattle.event.specs.Kinds as Kind
-use Rattle.event.specs.Event.{valueOf}
+use Rattle.event.specs.Event.{valueOf, eventIn}
 use Rattle.motion.specs.Motion.{toPosition, runTicks, toward}
 use Rattle.rules.specs.declared.Commands.{Commands}
 use Rattle.rules.specs.Commands.{commands}
-use Rattle.rules.specs.Rank.{running, startRun, forced, forbidsRun, busActive, activeByte, rulingRank, targets}
+use Rattle.rules.specs.Rank.{Source, sourceAt, running, startRun, forced, forbidsRun, busActive, activeByte, rulingRank, targets}
 use Rattle.rules.specs.Report.{status}
 use Rattle.rules.specs.Refusal.{refusal}
 
@@ -179,7 +179,19 @@ positionIn (e ∷ h) =
 unfoldable pub statusIn : List Event → ℕ
 statusIn h = status (commandsIn h) (runIn h) (busIn h)
 
+-- the commander that rules as the list stands, no tick to come being counted
+unfoldable pub commanderIn : List Event → Source
+commanderIn h = sourceAt (rulingRank (activeByte (commandsIn h) (runIn h) (busIn h)))
+
 -- "Refusals 2 to 13 are judged by what is read here": of the bytes of a record that comes after the history, 0 if accepted
 unfoldable pub judgement : List Event → List ℕ → ℕ
 judgement h s =
     refusal s (damperMode (parameters h)) (low (parameters h)) (high (parameters h)) (running (runIn h)) (forbidsRun (commandsIn h))
+
+-- the history that a list of records leaves, after the history `h`: those of its events that are accepted
+unfoldable pub historyFrom : List Event → List (List ℕ) → List Event
+historyFrom h [] = h
+historyFrom h (s ∷ ss) = historyFrom (pick (eqb (judgement h s) 0) (eventIn s ∷ h) h) ss
+
+abbrev pub historyOf : List (List ℕ) → List Event
+historyOf l = historyFrom [] l

@@ -15,7 +15,7 @@ use Rattle.damper.specs.declared.Drive.{Drive}
 use Rattle.damper.specs.declared.Outcome.{Outcome}
 use Rattle.damper.specs.Record.{freshDrive}
 use Rattle.damper.specs.Step.{refusalOf, stepOf}
-use Rattle.damper.specs.Carry.{Step, outcomes}
+use Rattle.damper.specs.Carry.{Step, outcomes, driveAfter}
 use Rattle.invariant.specs.Effects as F
 use Rattle.invariant.specs.Kept as K
 use Rattle.history.specs.Readings as R
@@ -63,6 +63,12 @@ claims (s ∷ ss) d t g c =
     let o = stepOf d s in
     claims ss (o .drive) (momentOf s o ∷ t) (f .good) (holds d t s o f, c)
 
+-- the drive that a list leaves agrees with the list
+goods : (l : List (List ℕ)) (d : Drive) (t : C.Trace) → Good d t → Good (driveAfter d (outcomes stepOf d l)) (C.traceOn t l (outcomes stepOf d l))
+unfolding outcomes driveAfter C.traceOn
+goods [] d t g = g
+goods (s ∷ ss) d t g = let o = stepOf d s in goods ss (o .drive) (momentOf s o ∷ t) (facts d t s g .good)
+
 fresh-good : Good freshDrive []
 unfolding C.accepted C.since C.lastReport R.parameters R.parameterIn R.latest R.current R.faultIn R.forcingIn R.handIn R.handValue R.toolIn R.toolValue R.setpointIn R.setpointValue R.setpointAge R.runIn leftIn R.positionIn
 fresh-good =
@@ -88,3 +94,6 @@ trace-whole step l = trace-length step l freshDrive [] ∙ zero-add (length l)
 -- For every list of lists of numbers, however long each may be, the drive's trace meets the claim.
 pub demand-3 : (l : List (List ℕ)) → C.Claim (C.traceOf stepOf l)
 demand-3 l = claims l freshDrive [] fresh-good tt
+
+pub good-after : (l : List (List ℕ)) → Good (driveAfter freshDrive (outcomes stepOf freshDrive l)) (C.traceOf stepOf l)
+good-after l = goods l freshDrive [] fresh-good

@@ -5,13 +5,13 @@ use mathlib.Core.List.{List, [], _∷_}
 use Rattle.numbers.specs.Laws.{and-left, and-right}
 use Rattle.rules.specs.Report.{reportDue}
 use Rattle.damper.specs.Closed as Drive
-use Rattle.history.specs.Readings.{latest, current, faultIn, forcingIn, handIn, handValue, toolIn, toolValue, setpointIn, setpointValue, parameterIn, parameters, ticks, setpointAge, busIn, ended, runIn, rankAt, targetFrom, positionIn, statusIn, judgement}
+use Rattle.history.specs.Closed.{readings}
 use Rattle.history.specs.Log.{logFrom}
 use Rattle.history.specs.Claim.{accepted, ticksIn, lastReport, since, traceOn, reportsFrom}
 
 -- `unfolding computation` opens the drive, the readings and the claim's functions, so that a list of records computes
 unfoldable pub computation : Unit {0}
-unfolding Drive.computation reportDue latest current faultIn forcingIn handIn handValue toolIn toolValue setpointIn setpointValue parameterIn parameters ticks setpointAge busIn ended runIn rankAt targetFrom positionIn statusIn judgement logFrom accepted ticksIn lastReport since traceOn reportsFrom
+unfolding Drive.computation reportDue readings logFrom accepted ticksIn lastReport since traceOn reportsFrom
 computation = tt
 
 -- `P` holds of each row of a table

@@ -1,6 +1,6 @@
 -- For every step, every row of drives and every list of calls: a place ends with the drive, and its turns got the answers, that the
 -- list of its share gives to the drive that stood there.
-use mathlib.Core.Path.{_≡_, refl, sym, _∙_}
+use mathlib.Core.Path.{_≡_, refl, sym, ap, _∙_}
 use mathlib.Core.List.{List, [], _∷_}
 use Prim.Native.Nat.{ℕ, _<_}
 use lib.Dec.{eqb}
@@ -43,6 +43,9 @@ module _ (step : Step) where
   hall-row row (c ∷ cs) =
       let ts = turnsOf (length row) c in
       hall-row (rowAfter step row ts) cs ∙ rw (row-length step row ts, row-append step row ts (turnsIn (length row) cs))
+
+  pub hall-length : (row : List Drive) (cs : List Call) → length (hallAfter step row cs) ≡ length row
+  hall-length row cs = ap length (hall-row row cs) ∙ row-length step row (turnsIn (length row) cs)
 
   hall-turned : (row : List Drive) (cs : List Call) → hallTurned step row cs ≡ turned step row (turnsIn (length row) cs)
   unfolding hallTurned turned turnsIn

@@ -1,7 +1,7 @@
 -- A hall of three by computation: a fresh drive, one that is not well formed and one that is open, under calls with repeats,
 -- refused ones and two hall ticks.
 use mathlib.Core.Path.{_≡_, refl}
-use mathlib.Core.List.{List, [], _∷_, map}
+use mathlib.Core.List.{List, [], _∷_, _++_, map}
 use Prim.Native.Nat.{ℕ, _+_, _*_}
 use lib.ListN.{length, replicate, set}
 use Rattle.table.specs.Table.{freshValues}
@@ -18,9 +18,15 @@ use Rattle.damper.specs.Carry.{Step, answersIn}
 use Rattle.damper.specs.Closed as Closed
 use Rattle.hall.specs.Hall as H
 use Rattle.hall.specs.Hall.{Call, give, badNumber, callRefusal, turnsOf, at, turned, rowAfter, answersAfter, turnsIn, hallAfter, hallTurned, sharedOut, ownOf, share, own}
+use Rattle.line.specs.Text.{text}
+use Rattle.line.specs.Line.{decimal, digitsWithin}
+use Rattle.shift.specs.Shift.{right, left, binary, lineOf, linesFrom, pageRefusal, pageAfter}
+use Rattle.history.specs.Readings.{historyOf}
+use Rattle.history.specs.Closed.{readings}
 use Rattle.history.specs.Log.{entry}
 use Rattle.history.specs.Claim.{reportsFrom}
 use Rattle.shares.specs.HostLog.{Lent, hostLog}
+use Rattle.shares.specs.PageRead.{lineIn}
 
 -- `unfolding computation` opens drive and hall, so that a list of calls computes
 unfoldable computation : Unit {0}
@@ -174,3 +180,13 @@ pub hostLogs : (hostLog hall 0 lent ≡ sent 5 0 ∷ sent 10 0 ∷ [])
     × (hostLog hall 2 lent ≡ sent 72 4 ∷ sent 0 0 ∷ [])
 unfolding computation
 hostLogs = (refl, refl, refl)
+
+-- The shift page afterwards, with a byte behind its lines; and the line of the fresh drive, read off its share.
+pub page : pageAfter (hallAfter stepOf hall calls) (replicate 88 9)
+    ≡ text " 0  10   4 bus      00000000\n 1 --- --- -------- --------\n 2   0   0 bus      00000000\n" ++ (9 ∷ [])
+unfolding computation decimal digitsWithin right left binary lineOf linesFrom pageRefusal pageAfter
+page = refl
+
+pub line : lineIn 0 (historyOf (share 3 0 calls)) ≡ text " 0  10   4 bus      00000000\n"
+unfolding computation readings decimal digitsWithin right left binary
+line = refl
