@@ -8,6 +8,7 @@ use Rattle.event.specs.declared.Event.{Event}
 use Rattle.damper.specs.declared.Drive.{Drive}
 use Rattle.damper.specs.Record.{freshDrive}
 use Rattle.damper.specs.Step.{stepOf}
+use Rattle.damper.specs.Carry.{outcomes, driveAfter}
 use Rattle.line.specs.Line.{decimal}
 use Rattle.hall.specs.Hall.{Call, at, hallAfter, share}
 use Rattle.shift.specs.Shift.{right, fields, spaced, lineOf, pageRefusal, pageAfter}
@@ -27,7 +28,11 @@ after-line number l = rw (standing-formed l, standing-position l, standing-comma
 -- The line of the drive at place `i`.
 pub share-line : (row : List Drive) (cs : List Call) (i : ℕ) → i < length row → at row i ≡ freshDrive
     → lineOf i (at (hallAfter stepOf row cs) i) ≡ lineIn i (historyOf (share (length row) i cs))
-share-line row cs i h fresh = rw (share-drive stepOf row cs i h, fresh) (after-line i (share (length row) i cs))
+share-line row cs i h fresh =
+    let l : List (List ℕ) = share (length row) i cs in
+    ap (lineOf i) (share-drive stepOf row cs i h)
+    ∙ ap (λ (d : Drive). lineOf i (driveAfter d (outcomes stepOf d l))) fresh
+    ∙ after-line i l
 
 -- On every page that has room it stands from byte 29 × i on.
 pub share-page : (row : List Drive) (cs : List Call) (page : List ℕ) (i : ℕ) → i < length row → at row i ≡ freshDrive
