@@ -195,7 +195,7 @@ enum damper_refusal {
     DAMPER_REFUSAL_CALIBRATION = 13 /* calibration: there is a fault, or forcing of 2 or 3 */
 };
 
-/* Why a call of a hall is turned down as a whole: the first that fits. No drive is given anything then. */
+/* Why a call of a hall is turned down as a whole: the first that fits. No drive is given anything then, and nothing is written. */
 enum damper_hall_refusal {
     DAMPER_HALL_REFUSAL_ROW = 14,    /* the row has no drive, or over DAMPER_HALL_MOST */
     DAMPER_HALL_REFUSAL_NUMBER = 15, /* a number of the list is not below the row's length */
@@ -381,7 +381,8 @@ uint8_t damper_hall_tick(damper_drive *row, size_t drives, uint32_t *numbers, si
  *
  * Who rules is fault, forced, run, hand, tool, bus or backup, and that and the status are of the record as it is, so a setpoint
  * that the next tick ends still rules. A record that is not well formed shows its number, and minus signs in all other columns
- * but the blanks. Bytes of the page behind the last line stay as they are, and every record does.
+ * but the blanks. Bytes of the page behind the last line stay as they are, and every record does. No 0 byte ends the page: its
+ * length is DAMPER_HALL_LINE * drives.
  *
  * The call is turned down by 14 if drives is 0 or over 64, otherwise by 17 if the page has fewer than 29 bytes for each drive,
  * and then the page stays as it is.

@@ -171,7 +171,6 @@ class Struct:
         self.mir = f"{laws}.mir"
         self.vals = f"(LL.vals {module}.the-type {laws}.the-laws)"
         self.tells = f"(LL.tells {module}.the-type {laws}.the-laws)"
-
         self.copy = f"(LL.copy {module}.the-type {laws}.the-copy 𝓤 H A W)"
 
     def typed(self, term, given):
@@ -187,7 +186,7 @@ DRIVE = Struct("R", "T", "T′")
 @dataclass
 class Slice:
     """A parameter: a lent row, to be changed or only read. `list` names what it holds at entry, `out` at exit. A row that is
-    only read is passed on to functions or, `looked`, looked into, which gives some `share` of it."""
+    only read is passed on to functions or, `looked`, looked into, which gives some share of it, `part`."""
 
     element: object
     list: str
@@ -204,10 +203,9 @@ class Slice:
 
 @dataclass
 class Lent:
-    """An argument: a parameter that is changed, by its place, lent on for the time of the call as `now`."""
+    """An argument: a parameter that is changed, by its place, lent on for the time of the call."""
 
     at: int
-    now: str
 
 
 @dataclass
@@ -317,10 +315,10 @@ class Walk:
         c.top(1, "result", "ensured")
         text = "split ! $ " + c.move("ensured")
         if lent:
-            says = lambda us: f"Said-{fn}{bound[4:]} {given} ({us} .0)"
+            says = f"Said-{fn}{bound[4:]} {given} (us .0)"
             last = f"‵ (lasts {fn}.ended {self.lifetimes(tokens)} {terms} us)"
-            o(text, f"use1 W (some (λ (us : {f.lasts()}). {last} ⊛ raw (fact 𝓤 ({says('us')})))) (id⊢ 𝓤 _) $ pick ! (λ us.")
-            o(c.split("lasts", "said"), c.move("said"), f"heard ! ({says('us')}) (λ {fact}.")
+            o(text, f"use1 W (some (λ (us : {f.lasts()}). {last} ⊛ raw (fact 𝓤 ({says})))) (id⊢ 𝓤 _) $ pick ! (λ us.")
+            o(c.split("lasts", "said"), c.move("said"), f"heard ! ({says}) (λ {fact}.")
             c.top(1)
             o(c.move("lasts"), c.fsplit("last", "rest"), c.fsplit("finally", "length"), c.move("length"), "feqL ! (λ same.")
             c.top(1)
@@ -896,7 +894,7 @@ use Rattle.damper.specs.Step.{stepOf}
 use Rattle.line.specs.Line.{Written}
 use Rattle.damper.proofs.Drive as T
 use Rattle.damper.proofs.Drive.Laws as T′
-use Rattle.shift.specs.Shift.{lineOf, pageRefusal, pageAfter}
+use Rattle.shift.specs.Shift.{driveLine, pageRefusal, pageAfter}
 use Rattle.shift.specs.Laws.{line-length, Lines, lines-fit, pageBy, page-start, page-by-length, page-turn, page-end, page-length}
 use Rattle.hall.specs.Hall.{Call, give, tick, callRefusal, Turn, tickBytes, turnsOf, at, rowAfter, tickNumber, answersAfter}
 use Rattle.hall.specs.Laws.{Turns, give-turns, tick-turns, turns-most, row-length, rowBy, answersBy, row-start, answers-start, row-by-length, answers-by-length, row-turn, answers-turn, row-end, answers-end, answers-end-length}

@@ -25,9 +25,9 @@ busOn d = busActive (d .commands) (d .age) (timeout (d .params))
 abbrev pub ruling : Drive → ℕ
 ruling d = rulingRank (activeByte (d .commands) (d .run .kind) (busOn d))
 
--- the commander at that rank
-abbrev pub commander : Drive → Source
-commander d = sourceAt (ruling d)
+-- the source at that rank (document 02: ruling commander)
+abbrev pub rulingSource : Drive → Source
+rulingSource d = sourceAt (ruling d)
 
 -- the target at a rank
 unfoldable pub targetAt : Drive → ℕ → ℕ

@@ -179,9 +179,9 @@ positionIn (e ∷ h) =
 unfoldable pub statusIn : List Event → ℕ
 statusIn h = status (commandsIn h) (runIn h) (busIn h)
 
--- the commander that rules as the list stands, no tick to come being counted
-unfoldable pub commanderIn : List Event → Source
-commanderIn h = sourceAt (rulingRank (activeByte (commandsIn h) (runIn h) (busIn h)))
+-- the source that rules as the list stands, no tick to come being counted
+unfoldable pub rulingSourceIn : List Event → Source
+rulingSourceIn h = sourceAt (rulingRank (activeByte (commandsIn h) (runIn h) (busIn h)))
 
 -- "Refusals 2 to 13 are judged by what is read here": of the bytes of a record that comes after the history, 0 if accepted
 unfoldable pub judgement : List Event → List ℕ → ℕ

@@ -6,7 +6,7 @@ use Prim.Native.Nat.{ℕ}
 use Rattle.damper.specs.declared.Drive.{Drive}
 use Rattle.damper.specs.Record.{freshDrive}
 use Rattle.damper.specs.WellFormed.{wellFormed}
-use Rattle.damper.specs.Tick.{commander, statusOf}
+use Rattle.damper.specs.Tick.{rulingSource, statusOf}
 use Rattle.damper.specs.Step.{stepOf}
 use Rattle.damper.specs.Carry.{Step, outcomes, driveAfter}
 use Rattle.history.specs.Readings as R
@@ -40,8 +40,8 @@ module _ (l : List (List ℕ)) where
   pub standing-status : statusOf (after l) ≡ R.statusIn (R.historyOf l)
   standing-status = rw (← history) (status-agrees (after l) _ (good-after l .wf) (good-after l .agrees))
 
-  pub standing-commander : commander (after l) ≡ R.commanderIn (R.historyOf l)
-  unfolding R.commanderIn
-  standing-commander =
+  pub standing-ruling : rulingSource (after l) ≡ R.rulingSourceIn (R.historyOf l)
+  unfolding R.rulingSourceIn
+  standing-ruling =
       let g = good-after l in
       rw (bus-agrees (after l) _ (g .wf) (g .agrees), g .agrees .commands, g .agrees .run, history) refl

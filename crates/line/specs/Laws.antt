@@ -31,7 +31,7 @@ line-four : L.lineOf 4 (At 5 2 0) ≡ 52 ∷ 32 ∷ 97 ∷ 116 ∷ 32 ∷ 53 ∷
 unfolding L.textOf L.decimal L.digitsWithin
 line-four = refl
 
-spaced-append : (vs ws : List ℕ) → L.spaced (vs ++ ws) ≡ L.spaced vs ++ L.spaced ws
+spaced-append : (vs ws : List ℕ) → L.spacedValues (vs ++ ws) ≡ L.spacedValues vs ++ L.spacedValues ws
 spaced-append [] ws = refl
 spaced-append (v ∷ vs) ws = rw (spaced-append vs ws, append-assoc (L.decimal v))
 
@@ -48,22 +48,22 @@ pub text-par : (v : ℕ) → L.textOf (Par v) ≡ (32 ∷ 112 ∷ 97 ∷ 114 ∷
 unfolding L.textOf
 text-par v = simp append-nil
 
-pub text-at : (p c s : ℕ) → L.textOf (At p c s) ≡ (32 ∷ 97 ∷ 116 ∷ []) ++ L.spaced (p ∷ c ∷ s ∷ [])
+pub text-at : (p c s : ℕ) → L.textOf (At p c s) ≡ (32 ∷ 97 ∷ 116 ∷ []) ++ L.spacedValues (p ∷ c ∷ s ∷ [])
 unfolding L.textOf
-text-at p c s = ap (λ (t : List ℕ). (32 ∷ 97 ∷ 116 ∷ []) ++ t) (append-nil (L.spaced (p ∷ c ∷ s ∷ [])))
+text-at p c s = ap (λ (t : List ℕ). (32 ∷ 97 ∷ 116 ∷ []) ++ t) (append-nil (L.spacedValues (p ∷ c ∷ s ∷ [])))
 
-pub text-tick : (p r m : ℕ) → L.textOf (Tick p r m) ≡ (32 ∷ 116 ∷ 105 ∷ 99 ∷ 107 ∷ []) ++ (L.spaced (p ∷ r ∷ m ∷ []) ++ (32 ∷ 45 ∷ []))
+pub text-tick : (p r m : ℕ) → L.textOf (Tick p r m) ≡ (32 ∷ 116 ∷ 105 ∷ 99 ∷ 107 ∷ []) ++ (L.spacedValues (p ∷ r ∷ m ∷ []) ++ (32 ∷ 45 ∷ []))
 unfolding L.textOf
 text-tick p r m = refl
 
 pub text-report : (p r m s : ℕ)
-    → L.textOf (Report p r m s) ≡ (32 ∷ 116 ∷ 105 ∷ 99 ∷ 107 ∷ []) ++ (L.spaced (p ∷ r ∷ m ∷ []) ++ (32 ∷ L.decimal s))
+    → L.textOf (Report p r m s) ≡ (32 ∷ 116 ∷ 105 ∷ 99 ∷ 107 ∷ []) ++ (L.spacedValues (p ∷ r ∷ m ∷ []) ++ (32 ∷ L.decimal s))
 unfolding L.textOf
 text-report p r m s =
     ap (λ (t : List ℕ). (32 ∷ 116 ∷ 105 ∷ 99 ∷ 107 ∷ []) ++ t)
-    (append-nil (L.spaced (p ∷ r ∷ m ∷ s ∷ []))
+    (append-nil (L.spacedValues (p ∷ r ∷ m ∷ s ∷ []))
     ∙ spaced-append (p ∷ r ∷ m ∷ []) (s ∷ [])
-    ∙ ap (λ (t : List ℕ). L.spaced (p ∷ r ∷ m ∷ []) ++ (32 ∷ t)) (append-nil (L.decimal s)))
+    ∙ ap (λ (t : List ℕ). L.spacedValues (p ∷ r ∷ m ∷ []) ++ (32 ∷ t)) (append-nil (L.decimal s)))
 
 -- a bound above the number gives its digits whole, so any two such bounds give the same
 within-step : (k j n : ℕ) → (10 ≤ n → L.digitsWithin k (n / 10) ≡ L.digitsWithin j (n / 10)) → L.digitsWithin (suc k) n ≡ L.digitsWithin (suc j) n

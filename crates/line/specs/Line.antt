@@ -1,6 +1,6 @@
 -- Document 01, 'What the drive program prints': a line as its bytes, and where in a buffer it goes.
 use mathlib.Core.Path.{_≡_}
-use mathlib.Core.List.{List, [], _∷_, _++_}
+use mathlib.Core.List.{List, [], _∷_, _++_, map}
 use mathlib.Core.Bool.{Bool}
 use Prim.Native.Nat.{ℕ, zero, suc, _+_, _/_, _%_}
 use lib.Dec.{leb, ltb}
@@ -28,10 +28,14 @@ word (At p c s) = 32 ∷ 97 ∷ 116 ∷ []
 word (Tick p r m) = 32 ∷ 116 ∷ 105 ∷ 99 ∷ 107 ∷ []
 word (Report p r m s) = 32 ∷ 116 ∷ 105 ∷ 99 ∷ 107 ∷ []
 
--- the values that follow the word, each after a space
-abbrev pub spaced : List ℕ → List ℕ
+-- texts, each after a space
+abbrev pub spaced : List (List ℕ) → List ℕ
 spaced [] = []
-spaced (v ∷ vs) = (32 ∷ decimal v) ++ spaced vs
+spaced (t ∷ ts) = (32 ∷ t) ++ spaced ts
+
+-- the values that follow the word, each after a space
+abbrev pub spacedValues : List ℕ → List ℕ
+spacedValues vs = spaced (map decimal vs)
 
 -- "reported status or `-`": a tick with no report ends in a space and `-`
 abbrev pub dash : Answer → List ℕ
@@ -44,7 +48,7 @@ dash (Report p r m s) = []
 
 -- an answer's text
 unfoldable pub textOf : Answer → List ℕ
-textOf a = word a ++ (spaced (valuesOf a) ++ dash a)
+textOf a = word a ++ (spacedValues (valuesOf a) ++ dash a)
 
 -- "Each line is the record's count from 1", the answer's text, and a line feed
 abbrev pub lineOf : ℕ → Answer → List ℕ

@@ -4,7 +4,7 @@ ghost use mathlib.Core.Path.{_≡_};
 ghost use mathlib.Core.List.{[], _∷_};
 ghost use Prim.Native.Nat.{_+_, _<_, _≤_};
 ghost use lib.ListN.{length};
-ghost use Rattle.line.specs.Line.{decimal, spaced, textOf, Written, putLine, endOf, room};
+ghost use Rattle.line.specs.Line.{decimal, spacedValues, textOf, Written, putLine, endOf, room};
 use answer::Answer;
 
 // A line is written only where this many bytes are free: more than any line has.
@@ -66,7 +66,7 @@ fn put_value(out: &mut [u8], at: usize, v: u16) -> usize
 // Three values, each after a space.
 fn put_three(out: &mut [u8], at: usize, a: u8, b: u8, c: u8) -> usize
     requires { ⌜ at + 18 ≤ length (now out) ⌝ }
-    ensures written { λ r. ⌜ Written (now (out .entry)) (now (out .exit)) at r (spaced (a ∷ b ∷ c ∷ [])) ⌝ }
+    ensures written { λ r. ⌜ Written (now (out .entry)) (now (out .exit)) at r (spacedValues (a ∷ b ∷ c ∷ [])) ⌝ }
     ensures short { λ r. ⌜ r ≤ at + 18 ⌝ }
 {
     let second = put_value(out, at, a as u16);

@@ -20,7 +20,7 @@ use Rattle.hall.specs.Hall as H
 use Rattle.hall.specs.Hall.{Call, give, badNumber, callRefusal, turnsOf, at, turned, rowAfter, answersAfter, turnsIn, hallAfter, hallTurned, sharedOut, ownOf, share, own}
 use Rattle.line.specs.Text.{text}
 use Rattle.line.specs.Line.{decimal, digitsWithin}
-use Rattle.shift.specs.Shift.{right, left, binary, lineOf, linesFrom, pageRefusal, pageAfter}
+use Rattle.shift.specs.Shift.{right, left, binary, driveLine, linesFrom, pageRefusal, pageAfter}
 use Rattle.history.specs.Readings.{historyOf}
 use Rattle.history.specs.Closed.{readings}
 use Rattle.history.specs.Log.{entry}
@@ -184,7 +184,7 @@ hostLogs = (refl, refl, refl)
 -- The shift page afterwards, with a byte behind its lines; and the line of the fresh drive, read off its share.
 pub page : pageAfter (hallAfter stepOf hall calls) (replicate 88 9)
     ≡ text " 0  10   4 bus      00000000\n 1 --- --- -------- --------\n 2   0   0 bus      00000000\n" ++ (9 ∷ [])
-unfolding computation decimal digitsWithin right left binary lineOf linesFrom pageRefusal pageAfter
+unfolding computation decimal digitsWithin right left binary driveLine linesFrom pageRefusal pageAfter
 page = refl
 
 pub line : lineIn 0 (historyOf (share 3 0 calls)) ≡ text " 0  10   4 bus      00000000\n"

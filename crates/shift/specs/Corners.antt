@@ -14,7 +14,7 @@ use Rattle.damper.specs.Closed.{computation}
 use Rattle.line.specs.Text.{text}
 use Rattle.line.specs.Line.{decimal, digitsWithin}
 use Rattle.hall.specs.Hall.{tickBytes}
-use Rattle.shift.specs.Shift.{right, left, binary, lineOf, linesFrom, pageRefusal, pageAfter}
+use Rattle.shift.specs.Shift.{right, left, binary, driveLine, linesFrom, pageRefusal, pageAfter}
 
 -- the fresh drive after events of a kind with a, b and c, and a tick
 abbrev after : List (List ℕ) → Drive
@@ -28,22 +28,22 @@ abbrev broken : Drive
 broken = withRun (withPosition freshDrive 200) (run 4 1)
 
 -- the age of the setpoint is Timeout
-abbrev lastTick : Drive
-lastTick = withCounts (after (bytes 2 128 0 0 ∷ [])) 1860 0
+abbrev atTimeout : Drive
+atTimeout = withCounts (after (bytes 2 128 0 0 ∷ [])) 1860 0
 
 -- a drive and its number have this line
 pub record Shown : Type 0 where
   pub number : ℕ
   pub drive : Drive
   pub line : String
-  pub is : lineOf number drive ≡ text line
+  pub is : driveLine number drive ≡ text line
 
-abbrev shows : (number : ℕ) (d : Drive) (line : String) → lineOf number d ≡ text line → Shown
+abbrev shows : (number : ℕ) (d : Drive) (line : String) → driveLine number d ≡ text line → Shown
 shows number d line e = record { number = number; drive = d; line = line; is = e }
 
--- each of the seven commanders, and every bit of the status
+-- each of the seven sources, and every bit of the status
 pub shown : List Shown
-unfolding computation decimal digitsWithin right left binary lineOf
+unfolding computation decimal digitsWithin right left binary driveLine
 shown =
     shows 0 freshDrive " 0   0   0 backup   00100000\n" refl
     ∷ shows 1 (after (bytes 2 128 0 0 ∷ [])) " 1   5   2 bus      00000000\n" refl
@@ -64,12 +64,12 @@ shown =
     -- not well formed
     ∷ shows 7 broken " 7 --- --- -------- --------\n" refl
     ∷ shows 63 broken "63 --- --- -------- --------\n" refl
-    -- the last tick of a setpoint is still to come
-    ∷ shows 0 lastTick " 0   5   2 bus      00000000\n" refl
+    -- the bus rules the record still, and no further tick
+    ∷ shows 0 atTimeout " 0   5   2 bus      00000000\n" refl
     ∷ []
 
 -- "the record as it is": the bus rules the page, and backup the tick that follows
-pub page-before-ageing : stepOf lastTick tickBytes .answer ≡ Tick 0 0 2
+pub page-before-ageing : stepOf atTimeout tickBytes .answer ≡ Tick 0 0 2
 unfolding computation
 page-before-ageing = refl
 
@@ -108,7 +108,7 @@ abbrev row : List Drive
 row = after (bytes 2 128 0 0 ∷ []) ∷ broken ∷ []
 
 pub page-written : pageAfter row (replicate 61 200) ≡ text " 0   5   2 bus      00000000\n 1 --- --- -------- --------\n" ++ replicate 3 200
-unfolding computation decimal digitsWithin right left binary lineOf linesFrom pageRefusal pageAfter
+unfolding computation decimal digitsWithin right left binary driveLine linesFrom pageRefusal pageAfter
 page-written = refl
 
 pub page-short : pageAfter row (replicate 57 200) ≡ replicate 57 200

@@ -8,10 +8,11 @@ use native.Mathlib.Nat.{not-suc-le-zero, le-of-suc-le-suc, sub-zero, zero-sub, s
 use native.Mathlib.Numerals.{add-one, one-add}
 use lib.Dec.{ltb, eqb}
 use borrow.Author.Tests.{ltb-false, eqb-true, ne-eqb}
-use lib.ListN.{length, take, drop, length-append, length-take, length-drop, length-replicate}
+use lib.ListN.{length, getD, take, drop, length-append, length-take, length-drop, length-replicate}
 use lib.Seq.{drop-append-le, drop-drop, take-suc, take-length, length-take-le, take-at, drop-at, split-at}
 use Rattle.numbers.specs.Numbers.{pick}
 use Rattle.numbers.specs.Laws.{passed, cases}
+use Rattle.line.specs.Text.{text}
 use Rattle.line.specs.Line.{decimal, writeAt}
 use Rattle.line.specs.Laws.{decimal-length}
 use Rattle.motion.specs.Motion.{toPercent}
@@ -39,13 +40,18 @@ binary-length zero n = refl
 binary-length (suc digits) n = ap suc (binary-length digits n)
 
 -- "exactly 28 columns and a line feed", of every record
-pub line-length : (number : ℕ) (d : Drive) → length (S.lineOf number d) ≡ 29
-unfolding S.lineOf
-line-length number d = go (wellFormed d)
-  where
-    go : (b : Bool) → length (S.right 2 (decimal number) ++ (S.spaced (pick b (S.shown d) S.hidden) ++ (10 ∷ []))) ≡ 29
-    go true = simp (length-append, right-length, left-length, binary-length)
-    go false = simp (length-append, right-length)
+pub line-length : (number : ℕ) (d : Drive) → length (S.driveLine number d) ≡ 29
+unfolding S.driveLine
+line-length number d =
+    cases (wellFormed d)
+    (λ e. rw e (simp (length-append, right-length, left-length, binary-length) refl))
+    (λ e. rw e (simp (length-append, right-length) refl))
+
+-- the line of a record that is not well formed
+pub unformed-line : (number : ℕ) (d : Drive) → wellFormed d ≡ false
+    → S.driveLine number d ≡ S.right 2 (decimal number) ++ text " --- --- -------- --------\n"
+unfolding S.driveLine
+unformed-line number d e = rw e refl
 
 -- Nothing of a text is cut off that has no more columns than it is given.
 
@@ -71,7 +77,7 @@ pub percent-shown : (p : ℕ) → p < 256 → S.right 3 (decimal (toPercent p)) 
 unfolding toPercent
 percent-shown p h = byte-shown (toPercent p) (omega arith)
 
--- each name has a blank behind it at least
+-- each name stands there whole, and blanks behind it
 pub name-shown : (s : Source) → S.left 8 (S.nameOf s) ≡ S.nameOf s ++ S.blanks (8 - length (S.nameOf s))
 unfolding S.left
 name-shown backup = refl
@@ -82,7 +88,14 @@ name-shown run = refl
 name-shown forcing = refl
 name-shown fault = refl
 
--- binary digits read from the first on
+-- binary digits are 0 and 1
+pub binary-digits : (digits n i : ℕ) → i < digits → (48 ≤ getD (S.binary digits n) i 0) × (getD (S.binary digits n) i 0 ≤ 49)
+unfolding S.binary
+binary-digits zero n i h = absurd (not-suc-le-zero h)
+binary-digits (suc bit) n zero h = (omega arith, omega arith)
+binary-digits (suc bit) n (suc i) h = binary-digits bit n i (le-of-suc-le-suc h)
+
+-- and read from the first on they are the number
 abbrev pub read : ℕ → List ℕ → ℕ
 read n [] = n
 read n (digit ∷ digits) = read (2 * n + (digit - 48)) digits
@@ -90,11 +103,11 @@ read n (digit ∷ digits) = read (2 * n + (digit - 48)) digits
 digit-read : (x : ℕ) → 48 + x - 48 ≡ x
 digit-read x = omega arith
 
--- the lowest digit of a number less its first `w` ones, and the others
+-- a quotient is its lowest binary digit and twice the next quotient
 halved : (n w : ℕ) → n / w ≡ n / w % 2 + 2 * (n / (w * 2))
 halved n w = rw (← (div-div-eq-div-mul n w 2)) (omega arith)
 
--- eight numbers, each the next digit of the one before
+-- so eight digits make up the first quotient
 joined : (n a b c d e f g i j k l m o p q : ℕ)
     → n ≡ i + 2 * a → a ≡ j + 2 * b → b ≡ k + 2 * c → c ≡ l + 2 * d → d ≡ m + 2 * e → e ≡ o + 2 * f → f ≡ p + 2 * g → g ≡ q
     → 2 * (2 * (2 * (2 * (2 * (2 * (2 * q + p) + o) + m) + l) + k) + j) + i ≡ n
@@ -121,12 +134,12 @@ unfolding S.linesFrom
 lines-length number [] = refl
 lines-length number (d ∷ row) = rw (length-append, line-length number d, lines-length (number + 1) row) (omega arith)
 
-lines-more : (row : List Drive) (k : ℕ) → k < length row → S.linesFrom 0 (take (k + 1) row) ≡ S.linesFrom 0 (take k row) ++ S.lineOf k (at row k)
+lines-more : (row : List Drive) (k : ℕ) → k < length row → S.linesFrom 0 (take (k + 1) row) ≡ S.linesFrom 0 (take k row) ++ S.driveLine k (at row k)
 unfolding S.linesFrom
 lines-more row k h =
     rw (add-one, take-suc row k freshDrive h, lines-append 0 (take k row), length-take-le k row (omega arith), zero-add k, append-nil)
 
--- The refusal: 17 needs what 14 did not refuse.
+-- A page that is not refused is of at most 64 drives, and has room for their lines.
 
 pub page-fits : (drives bytes : ℕ) → S.pageRefusal drives bytes ≡ 0 → (drives ≤ 64) × (29 * drives ≤ bytes)
 unfolding S.pageRefusal
@@ -162,10 +175,10 @@ module _ (row : List Drive) (page : List ℕ) where
     pub page-by-length : (k : ℕ) → k ≤ stop → length (pageBy k) ≡ length page
     page-by-length k h = rw (length-append, lines-by k h, length-drop) (omega (arith, lines-fit .2))
 
-    pub page-turn : (k : ℕ) → k < stop → writeAt (pageBy k) (29 * k) (S.lineOf k (at row k)) ≡ pageBy (k + 1)
+    pub page-turn : (k : ℕ) → k < stop → writeAt (pageBy k) (29 * k) (S.driveLine k (at row k)) ≡ pageBy (k + 1)
     page-turn k h =
         let lines : List ℕ = S.linesFrom 0 (take k row) in
-        let line : List ℕ = S.lineOf k (at row k) in
+        let line : List ℕ = S.driveLine k (at row k) in
         let rest : List ℕ = drop (29 * k) page in
         let l : length lines ≡ 29 * k = lines-by k (omega arith) in
         let size : length line ≡ 29 = line-length k (at row k) in
@@ -205,16 +218,16 @@ module _ (row : List Drive) (page : List ℕ) where
 
     -- the lines before that of drive `i`, that line, and those behind it
     lines-around : (i : ℕ) → i < length row
-        → S.linesFrom 0 row ≡ S.linesFrom 0 (take i row) ++ (S.lineOf i (at row i) ++ S.linesFrom (i + 1) (drop (suc i) row))
+        → S.linesFrom 0 row ≡ S.linesFrom 0 (take i row) ++ (S.driveLine i (at row i) ++ S.linesFrom (i + 1) (drop (suc i) row))
     unfolding S.linesFrom
     lines-around i h =
         ap (S.linesFrom 0) (split-at row i freshDrive h)
         ∙ rw (lines-append 0 (take i row), length-take-le i row (omega arith), zero-add i) refl
 
-    pub page-line : (i : ℕ) → i < length row → take 29 (drop (29 * i) (S.pageAfter row page)) ≡ S.lineOf i (at row i)
+    pub page-line : (i : ℕ) → i < length row → take 29 (drop (29 * i) (S.pageAfter row page)) ≡ S.driveLine i (at row i)
     page-line i h =
         let front : List ℕ = S.linesFrom 0 (take i row) in
-        let line : List ℕ = S.lineOf i (at row i) in
+        let line : List ℕ = S.driveLine i (at row i) in
         let back : List ℕ = S.linesFrom (i + 1) (drop (suc i) row) in
         let rest : List ℕ = drop (29 * length row) page in
         let l : length front ≡ 29 * i = lines-length 0 (take i row) ∙ ap (λ (n : ℕ). 29 * n) (length-take-le i row (omega arith)) in

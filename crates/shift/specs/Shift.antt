@@ -8,9 +8,9 @@ use Rattle.motion.specs.Motion.{toPercent}
 use Rattle.rules.specs.Rank.{Source, backup, bus, tool, hand, run, forcing, fault}
 use Rattle.damper.specs.declared.Drive.{Drive}
 use Rattle.damper.specs.WellFormed.{wellFormed}
-use Rattle.damper.specs.Tick.{commander, statusOf}
+use Rattle.damper.specs.Tick.{rulingSource, statusOf}
 use Rattle.line.specs.Text.{text}
-use Rattle.line.specs.Line.{decimal}
+use Rattle.line.specs.Line.{decimal, spaced}
 use Rattle.hall.specs.Hall.{badRow}
 
 abbrev pub blanks : ℕ → List ℕ
@@ -45,27 +45,29 @@ abbrev pub fields : ℕ → Source → ℕ → List (List ℕ)
 fields position ruling status =
     right 3 (decimal position) ∷ right 3 (decimal (toPercent position)) ∷ left 8 (nameOf ruling) ∷ binary 8 status ∷ []
 
--- those of a record, commander and status taken from it as it is
+-- those of a record, the ruling source and the status taken from it as it is
 abbrev pub shown : Drive → List (List ℕ)
-shown d = fields (d .position) (commander d) (statusOf d)
+shown d = fields (d .position) (rulingSource d) (statusOf d)
 
 -- those of a record that is not well formed: "minus signs filling the other fields"
 abbrev pub hidden : List (List ℕ)
 hidden = map (λ columns. replicate columns 45) (3 ∷ 3 ∷ 8 ∷ 8 ∷ [])
 
--- "one blank between fields": each of these after a blank
-abbrev pub spaced : List (List ℕ) → List ℕ
-spaced [] = []
-spaced (field ∷ fields) = (32 ∷ field) ++ spaced fields
+abbrev pub fieldsOf : Drive → List (List ℕ)
+fieldsOf d = pick (wellFormed d) (shown d) hidden
 
--- the line of a drive by its number: "number 2", then the other fields and a line feed
-unfoldable pub lineOf : ℕ → Drive → List ℕ
-lineOf number d = right 2 (decimal number) ++ (spaced (pick (wellFormed d) (shown d) hidden) ++ (10 ∷ []))
+-- a line: "number 2", then the other fields, "one blank between fields", and a line feed
+abbrev pub lineWith : ℕ → List (List ℕ) → List ℕ
+lineWith number others = right 2 (decimal number) ++ (spaced others ++ (10 ∷ []))
+
+-- the line of a drive by its number
+unfoldable pub driveLine : ℕ → Drive → List ℕ
+driveLine number d = lineWith number (fieldsOf d)
 
 -- the lines of a row, its first drive having this number
 unfoldable pub linesFrom : ℕ → List Drive → List ℕ
 linesFrom number [] = []
-linesFrom number (d ∷ row) = lineOf number d ++ linesFrom (number + 1) row
+linesFrom number (d ∷ row) = driveLine number d ++ linesFrom (number + 1) row
 
 -- "17 when the lent page is shorter than 29 bytes per drive, checked after 14": the first that fits, 0 if none does
 unfoldable pub pageRefusal : ℕ → ℕ → ℕ

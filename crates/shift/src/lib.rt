@@ -4,9 +4,9 @@ ghost use mathlib.Core.Path.{_≡_};
 ghost use mathlib.Core.List.{[], _∷_, _++_};
 ghost use Prim.Native.Nat.{_+_, _<_, _≤_};
 ghost use lib.ListN.{length};
-ghost use Rattle.line.specs.Line.{decimal, Written};
+ghost use Rattle.line.specs.Line.{decimal, spaced, Written};
 ghost use Rattle.rules.specs.Rank.{sourceAt};
-ghost use Rattle.shift.specs.Shift.{blanks, right, left, binary, nameOf, fields, spaced, lineOf, pageRefusal};
+ghost use Rattle.shift.specs.Shift.{blanks, right, left, binary, nameOf, fields, driveLine, pageRefusal};
 use damper::Drive;
 use line::put_byte;
 use line::put_bytes;
@@ -59,7 +59,7 @@ fn put_number(out: &mut [u8], at: usize, n: u8) -> usize
     put_right(out, number, 3, n)
 }
 
-// A blank and the name of the commander at a rank.
+// A blank and the name of the source at a rank.
 fn put_name(out: &mut [u8], at: usize, rank: u8) -> usize
     requires { ⌜ rank < 7 ⌝ }
     requires { ⌜ at + 9 ≤ length (now out) ⌝ }
@@ -113,7 +113,7 @@ fn put_fields(out: &mut [u8], at: usize, position: u8, rank: u8, status: u8) -> 
 // The line of a drive by its number.
 pub fn put_drive(out: &mut [u8], at: usize, number: usize, d: Drive) -> usize
     requires { ⌜ (number < 64) × (at + 29 ≤ length (now out)) ⌝ }
-    ensures { λ r. ⌜ Written (now (out .entry)) (now (out .exit)) at r (lineOf number d) ⌝ }
+    ensures { λ r. ⌜ Written (now (out .entry)) (now (out .exit)) at r (driveLine number d) ⌝ }
 {
     let rest = put_right(out, at, 2, number as u8);
     if d.well_formed() {

@@ -78,9 +78,6 @@ fn odd<T>(places: usize, content: impl Fn(u32) -> T) -> Vec<T> {
 
 /// The first answer that differs.
 fn answers_differ<T: PartialEq + Debug>(model: &[T], tested: &[T]) -> Option<String> {
-    if model == tested {
-        return None;
-    }
     let i = (0..model.len()).find(|&i| model[i] != tested[i])?;
     Some(format!("\n  answer {i}: model {:?}, subject {:?}", model[i], tested[i]))
 }

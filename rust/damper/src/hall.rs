@@ -71,9 +71,9 @@ pub fn hall_tick(row: &mut [Drive], numbers: &mut [u32]) -> Result<(), HallRefus
 ///
 /// A line has the drive's number, its position and its percent, to the right in 2, 3 and 3 columns; who rules
 /// (fault, forced, run, hand, tool, bus or backup), to the left in 8; and the status, the highest bit first, in
-/// 8. Who rules and the status are of the record as it is. A record that is not well formed shows its number,
-/// and minus signs in the other fields. Bytes behind the last line keep their content. A call that is refused
-/// writes nothing.
+/// 8; a blank between two of these. Who rules and the status are of the record as it is. A record that is not
+/// well formed shows its number, and minus signs in the other fields. Bytes behind the last line keep their
+/// content. A call that is refused, as [`HallRefusal::Row`] or [`HallRefusal::Page`], writes nothing.
 ///
 /// ```
 /// use damper::{hall_page, Drive, Event, HallRefusal, HALL_LINE};

@@ -57,7 +57,7 @@ use Rattle.damper.specs.Record.{freshDrive}
 use Rattle.line.specs.Line.{Written}
 use Rattle.damper.proofs.Drive as T
 use Rattle.damper.proofs.Drive.Laws as T′
-use Rattle.shift.specs.Shift.{lineOf, pageRefusal, pageAfter}
+use Rattle.shift.specs.Shift.{driveLine, pageRefusal, pageAfter}
 use Rattle.shift.specs.Laws.{line-length, Lines, lines-fit, pageBy, page-start, page-by-length, page-turn, page-end, page-length}
 use Rattle.hall.specs.Hall.{at}
 use Rattle.shift.proofs.page_refusal as page-refusal
@@ -183,7 +183,7 @@ module _ {M : Type 1} (𝓤 : URA M) (H : Heap 𝓤) (A : Atoms 𝓤) (W : Given
   asked-put-drive ν δ l p i d asks = qed W ((‵ (flft (ν ∷ []) fullShare) ⊛ ‵ ftrue) ∷ ‵ (owns (MutSlice (named 0) (ν ∷ []) u8 ∷ usize ∷ usize ∷ R ∷ []) (lent₁ δ l, (p, (i, (d, tt)))) (s₁ ∷ [], (vint w64 p ∷ [], (vint w64 i ∷ [], (LL.vals T.the-type T′.the-laws d, tt))))) ∷ []) ∵ says ! asks $ frame ! $ done !
 
   abbrev Said-put-drive : (l : List ℕ) (p i : ℕ) (d : Drive) → ℕ → List ℕ → Type 0
-  Said-put-drive l p i d r us = Written l us p r (lineOf i d)
+  Said-put-drive l p i d r us = Written l us p r (driveLine i d)
 
   abbrev Ends : List (Item 𝓤)
   Ends = ‵ (flft κ₀ q₀) ∷ ‵ Own₀ ∷ ‵ (fobs γ₁ (codedHoleys u8 .code (heres u8 zs₁))) ∷ ‵ (fbor κ₁ (Held u8 (length zs₁) b₁ o₁ γ₁)) ∷ ‵ (flft κ₁ q₁) ∷ []
@@ -225,7 +225,7 @@ module _ {M : Type 1} (𝓤 : URA M) (H : Heap 𝓤) (A : Atoms 𝓤) (W : Given
       abbrev drive : Upto n → Drive
       drive k = at ys (k .0)
 
-      next-end : (k : Upto n) (r : ℕ) {us : List ℕ} → Written (Row₁ k) us (29 * k .0) r (lineOf (k .0) (drive k)) → r ≡ 29 * (k .0 + 1)
+      next-end : (k : Upto n) (r : ℕ) {us : List ℕ} → Written (Row₁ k) us (29 * k .0) r (driveLine (k .0) (drive k)) → r ≡ 29 * (k .0 + 1)
       next-end k r e = omega (arith, e .place, line-length (k .0) (drive k))
 
       abbrev At : Upto n → List (Item 𝓤)
@@ -254,7 +254,7 @@ module _ {M : Type 1} (𝓤 : URA M) (H : Heap 𝓤) (A : Atoms 𝓤) (W : Given
           let same′ : length (Row₁ k) ≡ length cs = page-by-length ys cs w (k .0) (k .1) in
           let room : 29 * k .0 + 29 ≤ length (Row₁ k) = omega (arith, less, same′, fit .2) in
           skips ! $ exec ! (𝓣 .C) (𝓣 .Λ) En more (anyQ (Turned k)) $
-          -- the drive at place k is copied
+          -- the page is made ready to be lent on, and the drive at place k is copied
           assigns ! (addr ! (from ! (fld ! refl (hop ! (look-in ! 32 (sub ! 0 refl (whole !))) (stop !))))) (from ! (stop !)) (init ! 16 refl (tt, tt)) $
           assigns ! (agg ! (and-then ! (load ! (from ! (stop !)) (look ! 16 refl)) (and-then ! (load ! (from ! (fld ! refl (stop !))) (look-in ! 32 (sub ! 1 refl (whole !)))) (no-more !)))) (from ! (stop !)) (init ! 14 refl (tt, (tt, (record { fits = room₁ .0 }, tt)))) $
           assigns ! (bin ! (load ! (from ! (stop !)) (look ! 26 refl)) (lit ! tt) (record { fits = at-fits })) (from ! (stop !)) (init ! 12 refl (tt, record { fits = at-fits })) $

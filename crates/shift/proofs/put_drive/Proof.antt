@@ -4,7 +4,7 @@ use borrow.Author.Needs.{needs}
 use Rattle.line.specs.Line.{decimal}
 use Rattle.line.specs.Laws.{decimal-length, after-that}
 use Rattle.damper.specs.Laws.{wf-flags}
-use Rattle.shift.specs.Shift.{lineOf}
+use Rattle.shift.specs.Shift.{driveLine}
 use Rattle.shift.specs.Laws.{right-length}
 use Rattle.shift.proofs.put_drive.Statement.{statement}
 use Rattle.shift.proofs.put_drive.Tie as tie
@@ -22,14 +22,14 @@ put-bytes-requires : tie.Need-put-bytes-requires
 put-bytes-requires c κs = omega (arith, right-length 2 (decimal (c .before .before .before .before .before .before .before .before .before .args .number)))
 
 returns : tie.Need-returns
-unfolding lineOf
+unfolding driveLine
 returns c =
     let s = c .before .before .before .before .before .before .before .before .before .before .before .before .before in
     rw (sym (c .before .before .before .before .before .before .before .well-formed .ensures) ∙ c .before .before .before .before .before .before .if1 .taken, ← (c .before .before .before .before .ruling .ensures .0), ← (c .before .before .before .status .ensures))
     (after-that (c .before .before .before .before .before .before .before .before .before .before .put-right .ensures) (c .before .before .put-fields .ensures) (omega (arith, right-length 2 (decimal (s .args .number)))))
 
 returns-2 : tie.Need-returns-2
-unfolding lineOf
+unfolding driveLine
 returns-2 c =
     let s = c .before .before .before .before .before .before .before .before .before .before .before .before in
     rw (sym (c .before .before .before .before .before .before .well-formed .ensures) ∙ c .before .before .before .before .before .if1 .left)

@@ -4,7 +4,7 @@ use Prim.Native.Nat.{ℕ}
 use native.Mathlib.Omega.{arith}
 use borrow.Author.Needs.{needs}
 use Rattle.line.specs.Laws.{after-that}
-use Rattle.shift.specs.Shift.{spaced, fields}
+use Rattle.line.specs.Line.{spaced}
 use Rattle.shift.proofs.put_fields.Statement.{statement}
 use Rattle.shift.proofs.put_fields.Tie as tie
 

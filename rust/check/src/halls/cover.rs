@@ -92,7 +92,7 @@ struct Lines {
     /// By `RULING`.
     ruling: [u64; 7],
     not_well_formed: u64,
-    /// Bus rules for the last time: the next tick raises the age.
+    /// The bus rules the record still, and no further tick.
     bus_at_timeout: u64,
     /// The setpoint is one tick too old to rule.
     backup_past_timeout: u64,
