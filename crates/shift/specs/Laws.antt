@@ -195,7 +195,7 @@ module _ (row : List Drive) (page : List ℕ) where
     page-end k e =
         rw (e, w)
         (cases (eqb (S.pageRefusal (length row) (length page)) 0)
-        (λ h. rw (h, take-length row, lines-length 0 row) refl)
+        (λ h. rw (h, take-length row) (ap (λ (n : ℕ). S.linesFrom 0 row ++ drop n page) (sym (lines-length 0 row))))
         (λ h. rw h (sym page-start)))
 
 -- What the page is after the call: as long as before, each line in its place, the bytes behind the last as they were, and refused, the
@@ -214,7 +214,7 @@ module _ (row : List Drive) (page : List ℕ) where
   module _ (accepted : S.pageRefusal (length row) (length page) ≡ 0) where
     lines : S.pageAfter row page ≡ S.linesFrom 0 row ++ drop (29 * length row) page
     unfolding S.pageAfter
-    lines = rw (accepted, lines-length 0 row) refl
+    lines = rw accepted (ap (λ (n : ℕ). S.linesFrom 0 row ++ drop n page) (lines-length 0 row))
 
     -- the lines before that of drive `i`, that line, and those behind it
     lines-around : (i : ℕ) → i < length row

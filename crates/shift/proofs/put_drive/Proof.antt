@@ -25,8 +25,9 @@ returns : tie.Need-returns
 unfolding driveLine
 returns c =
     let s = c .before .before .before .before .before .before .before .before .before .before .before .before .before in
-    rw (sym (c .before .before .before .before .before .before .before .well-formed .ensures) ∙ c .before .before .before .before .before .before .if1 .taken, ← (c .before .before .before .before .ruling .ensures .0), ← (c .before .before .before .status .ensures))
-    (after-that (c .before .before .before .before .before .before .before .before .before .before .put-right .ensures) (c .before .before .put-fields .ensures) (omega (arith, right-length 2 (decimal (s .args .number)))))
+    let fields = rw (c .before .before .before .before .ruling .ensures .0, c .before .before .before .status .ensures) at (c .before .before .put-fields .ensures) in
+    rw (sym (c .before .before .before .before .before .before .before .well-formed .ensures) ∙ c .before .before .before .before .before .before .if1 .taken)
+    (after-that (c .before .before .before .before .before .before .before .before .before .before .put-right .ensures) fields (omega (arith, right-length 2 (decimal (s .args .number)))))
 
 returns-2 : tie.Need-returns-2
 unfolding driveLine

@@ -15,11 +15,11 @@ in-turn a b c d = simp append-assoc
 returns : tie.Need-returns
 returns c =
     let position = c .before .before .before .before .before .before .before .before .before .before .before .before .before .before .before .before .before .before .before .put-number .ensures in
-    let percent = c .before .before .before .before .before .before .before .before .before .before .before .before .before .before .put-number2 .ensures in
+    let percent = rw (c .before .before .before .before .before .before .before .before .before .before .before .before .before .before .before .to-percent .ensures) at (c .before .before .before .before .before .before .before .before .before .before .before .before .before .before .put-number2 .ensures) in
     let name = c .before .before .before .before .before .before .before .before .before .before .put-name .ensures in
     let digits = c .before .before .before .before .before .before .put-binary .ensures in
     let feed = c .before .before .put-byte .ensures in
-    rw (in-turn _ _ _ _, ← (c .before .before .before .before .before .before .before .before .before .before .before .before .before .before .before .to-percent .ensures))
+    rw (in-turn _ _ _ _)
     (after-that (position .0) (after-that (percent .0) (after-that (name .0) (after-that (digits .0) feed (omega arith)) (omega arith)) (omega arith)) (omega arith))
 
 pub put-fields-spec : {M : Type 1} → statement M
