@@ -30,11 +30,11 @@ pub right-length : (columns : ℕ) (t : List ℕ) → length (S.right columns t)
 unfolding S.right
 right-length columns t = simp (length-drop, length-append, length-replicate) (omega arith)
 
-pub left-length : (columns : ℕ) (t : List ℕ) → length (S.left columns t) ≡ columns
+left-length : (columns : ℕ) (t : List ℕ) → length (S.left columns t) ≡ columns
 unfolding S.left
 left-length columns t = simp (length-take, length-append, length-replicate) (omega arith)
 
-pub binary-length : (digits n : ℕ) → length (S.binary digits n) ≡ digits
+binary-length : (digits n : ℕ) → length (S.binary digits n) ≡ digits
 unfolding S.binary
 binary-length zero n = refl
 binary-length (suc digits) n = ap suc (binary-length digits n)
@@ -123,13 +123,13 @@ binary-read n h =
 
 -- The lines of a row: of two parts of it, how long they are, and with one drive more.
 
-pub lines-append : (number : ℕ) (row more : List Drive) → S.linesFrom number (row ++ more) ≡ S.linesFrom number row ++ S.linesFrom (number + length row) more
+lines-append : (number : ℕ) (row more : List Drive) → S.linesFrom number (row ++ more) ≡ S.linesFrom number row ++ S.linesFrom (number + length row) more
 unfolding S.linesFrom
 lines-append number [] more = rw (add-zero number)
 lines-append number (d ∷ row) more =
     rw (lines-append (number + 1) row more, add-assoc, one-add, append-assoc)
 
-pub lines-length : (number : ℕ) (row : List Drive) → length (S.linesFrom number row) ≡ 29 * length row
+lines-length : (number : ℕ) (row : List Drive) → length (S.linesFrom number row) ≡ 29 * length row
 unfolding S.linesFrom
 lines-length number [] = refl
 lines-length number (d ∷ row) = rw (length-append, line-length number d, lines-length (number + 1) row) (omega arith)
@@ -141,7 +141,7 @@ lines-more row k h =
 
 -- A page that is not refused is of at most 64 drives, and has room for their lines.
 
-pub page-fits : (drives bytes : ℕ) → S.pageRefusal drives bytes ≡ 0 → (drives ≤ 64) × (29 * drives ≤ bytes)
+page-fits : (drives bytes : ℕ) → S.pageRefusal drives bytes ≡ 0 → (drives ≤ 64) × (29 * drives ≤ bytes)
 unfolding S.pageRefusal
 page-fits drives bytes e =
     let r = passed (badRow drives) 14 _ e (omega arith) in

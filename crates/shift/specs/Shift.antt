@@ -53,6 +53,7 @@ shown d = fields (d .position) (rulingSource d) (statusOf d)
 abbrev pub hidden : List (List ℕ)
 hidden = map (λ columns. replicate columns 45) (3 ∷ 3 ∷ 8 ∷ 8 ∷ [])
 
+-- those of any record
 abbrev pub fieldsOf : Drive → List (List ℕ)
 fieldsOf d = pick (wellFormed d) (shown d) hidden
 
