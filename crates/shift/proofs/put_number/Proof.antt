@@ -1,7 +1,5 @@
-use Prim.Native.Nat.{_≤_}
 use native.Mathlib.Omega.{arith}
 use borrow.Author.Needs.{needs}
-use lib.ListN.{length}
 use Rattle.line.specs.Line.{decimal}
 use Rattle.line.specs.Laws.{decimal-length, after-that}
 use Rattle.shift.specs.Laws.{right-length}
