@@ -57,7 +57,8 @@ bool same(const damper_drive *x, const damper_drive *y)
 {
     return x->position == y->position && !memcmp(x->params, y->params, sizeof x->params) &&
            !memcmp(&x->commands, &y->commands, sizeof x->commands) && x->age == y->age &&
-           !memcmp(&x->run, &y->run, sizeof x->run) && x->since == y->since && !memcmp(&x->last, &y->last, sizeof x->last);
+           !memcmp(&x->run, &y->run, sizeof x->run) && x->since == y->since && !memcmp(&x->last, &y->last, sizeof x->last) &&
+           x->wait == y->wait;
 }
 
 void show(const char *name, const void *start, size_t length)

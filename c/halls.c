@@ -1,8 +1,9 @@
 /*
  * The three calls of a hall, as a C host makes them, beside the plain ones: halls of fresh, well-formed and broken drives,
  * each taken through a number of calls. After each call the number that it gives, every drive, every place of the answers and
- * every byte of the page must agree, those before and behind what was lent among them. Each case below must be met a thousand
- * times.
+ * every byte of the page must agree, those before and behind what was lent among them. Which due drives a hall tick sends is
+ * free in part: those that it has sent must be an allowed choice, and the plain hall tick sends the same. Each drive must have
+ * its turn. Each case below must be met a thousand times.
  */
 #include "compare.h"
 #include "plain.h"
@@ -11,7 +12,7 @@
 #include <stdlib.h>
 #include <string.h>
 
-#define CALLS 600000
+#define CALLS 900000
 #define LEAST 1000
 #define FRONT 2         /* places before a row */
 #define MOST_ENTRIES 70 /* of a list */
@@ -36,9 +37,15 @@ enum { EVENT_CALL, TICK_CALL, PAGE_CALL };
 typedef struct {
     int kind;
     size_t drives, entries, places;
-    uint32_t list[MOST_ENTRIES];
+    uint32_t list[MOST_ENTRIES], quota;
     event given;
 } call;
+
+/* The due drives of a hall tick and those that it has sent, drive i at bit i. */
+static uint64_t due, sent;
+
+/* Hall ticks in a row at which a drive was due and not sent, without a restart between them. */
+static size_t turns[ROOM];
 
 /* The cases that must be met. */
 #define CASES(of)                                                       \
@@ -56,6 +63,29 @@ typedef struct {
     of(TICK_GIVEN, "hall tick")                                         \
     of(TICK_14, "refused by 14")                                        \
     of(TICK_16, "by 16")                                                \
+    of(TICK_18_NONE, "by 18 with quota 0")                              \
+    of(TICK_18_OVER, "with a quota over 64")                            \
+    of(TICK_18_NEXT, "with quota 65")                                   \
+    of(TICK_18_LOW_BYTE, "with a low byte of 1 to 64")                  \
+    of(TICK_14_18, "by 14 where 18 fits")                               \
+    of(TICK_16_18, "by 16 where 18 fits")                               \
+    of(QUOTA_1, "hall tick with quota 1")                               \
+    of(QUOTA_64, "with quota 64")                                       \
+    of(NONE_DUE, "with none due")                                       \
+    of(MORE_DUE, "with more due than the quota")                        \
+    of(AS_MANY_DUE, "as many")                                          \
+    of(FEWER_DUE, "fewer")                                              \
+    of(TIE, "with equal longest waits, not all sent")                   \
+    of(NOT_LOWEST, "whose longest waiting is not the lowest due")       \
+    of(BROKEN_LONGER, "with a longer wait of a drive not well formed")  \
+    of(HELD, "due drive held")                                          \
+    of(HELD_AT_MOST, "with its wait at 65,535")                         \
+    of(SENT_CLEARED, "wait cleared as sent")                            \
+    of(NOT_DUE_CLEARED, "as not due")                                   \
+    of(RESTART_CLEARED, "by a restart")                                 \
+    of(WAIT_KEPT, "wait kept at another event")                         \
+    of(BROKEN_KEPT, "of a drive not well formed at a hall tick")        \
+    of(LAST_TURN, "drive sent at its last turn in a row of several")    \
     of(BAD_BEYOND, "bad number only beyond the 64th entry")             \
     of(BAD_LONG, "in a list of over 64")                                \
     of(BAD_TICK, "beside an accepted tick")                             \
@@ -164,8 +194,19 @@ static damper_drive about_timeout(void)
     return d;
 }
 
-/* The bytes of no field are any as well. */
-static damper_drive random_drive(void)
+/* Mostly none or few, so that many are equal, or about 65,535. */
+static uint16_t random_wait(void)
+{
+    switch (random_below(4)) {
+    case 0: return 0;
+    case 1: return (uint16_t)(1 + random_below(3));
+    case 2: return (uint16_t)(UINT16_MAX - random_below(3));
+    default: return (uint16_t)random_below(UINT16_MAX + 1u);
+    }
+}
+
+/* In a busy hall most drives are due at every tick. The bytes of no field are any as well. */
+static damper_drive random_drive(bool busy)
 {
     damper_drive d;
     switch (random_below(6)) {
@@ -175,6 +216,9 @@ static damper_drive random_drive(void)
     case 3: d = about_timeout(); break;
     default: d = well_formed(); break;
     }
+    d.wait = random_wait();
+    if (busy && random_below(12) > 0)
+        d.params[DAMPER_PLACE_MIN_REP_TIME] = d.params[DAMPER_PLACE_REP_PER] = 1;
     uint8_t bytes[sizeof d];
     memcpy(bytes, &d, sizeof d);
     bytes[1] = random_byte();
@@ -232,6 +276,24 @@ static size_t random_places(size_t asked)
     }
 }
 
+/* One in eight is refused. */
+static uint32_t random_quota(size_t drives)
+{
+    uint32_t some = 1 + random_below(DAMPER_HALL_MOST);
+    switch (random_below(24)) {
+    case 0: return 0;
+    case 1: return random_below(2) ? DAMPER_HALL_MOST + 1 : UINT32_MAX - random_below(256);
+    case 2: return (256u << random_below(24)) | some;
+    case 3: return DAMPER_HALL_MOST;
+    case 4: return drives > 0 && drives < DAMPER_HALL_MOST ? (uint32_t)drives : some;
+    case 5:
+    case 6: return some;
+    case 7:
+    case 8: return 1 + random_below(8);
+    default: return 1;
+    }
+}
+
 static size_t random_bytes(size_t drives)
 {
     size_t asked = drives * DAMPER_HALL_LINE;
@@ -273,6 +335,7 @@ static call random_call(size_t drives)
     call c = {.kind = kinds[random_below(sizeof kinds / sizeof *kinds)], .drives = drives};
     if (c.kind != EVENT_CALL) {
         c.places = c.kind == TICK_CALL ? random_places(drives) : random_bytes(drives);
+        c.quota = c.kind == TICK_CALL ? random_quota(drives) : 0;
         return c;
     }
     c.entries = random_entries();
@@ -297,6 +360,9 @@ static void differ_at(const char *what, const call *c, size_t at)
     printf("halls: %s\n", what);
     printf("  %s on %zu drives, with %zu places\n", c->kind == EVENT_CALL ? "event" : c->kind == TICK_CALL ? "tick" : "page",
            c->drives, c->places);
+    if (c->kind == TICK_CALL)
+        printf("  quota %lu, due %016llX, sent %016llX\n", (unsigned long)c->quota, (unsigned long long)due,
+               (unsigned long long)sent);
     if (c->kind == EVENT_CALL) {
         printf("  list:");
         for (size_t k = 0; k < c->entries; k++)
@@ -405,6 +471,100 @@ static void count_page(const call *c, uint8_t refusal)
     counts[PAGE_MIXED] += well_formed > 0 && well_formed < c->drives;
 }
 
+static bool is_due(size_t i)
+{
+    return due >> i & 1;
+}
+
+static bool is_sent(size_t i)
+{
+    return sent >> i & 1;
+}
+
+static unsigned many(uint64_t drives)
+{
+    unsigned found = 0;
+    for (; drives != 0; drives &= drives - 1)
+        found++;
+    return found;
+}
+
+/* The due drive that goes before all others: the longest wait, then the lower number. */
+static size_t first_due(const damper_drive *row, size_t drives)
+{
+    for (size_t i = 0; i < drives; i++) {
+        bool first = is_due(i);
+        for (size_t k = 0; first && k < drives; k++)
+            first = !is_due(k) || row[i].wait > row[k].wait || (row[i].wait == row[k].wait && i <= k);
+        if (first)
+            return i;
+    }
+    return drives;
+}
+
+/* The choice of a hall tick that was not refused, and the turns; `before` has the waits. */
+static void judge_choice(const call *c)
+{
+    size_t first = first_due(before.row + FRONT, c->drives);
+    if (sent & ~due)
+        differ("a drive is sent that is not due", c);
+    if (many(sent) > c->quota)
+        differ("more are sent than the quota", c);
+    if (first < c->drives && !is_sent(first))
+        differ_at("the one that waited longest is not sent", c, FRONT + first);
+    for (size_t i = 0; i < c->drives; i++) {
+        counts[LAST_TURN] += is_sent(i) && c->drives > 1 && turns[i] + 1 == c->drives;
+        turns[i] = is_due(i) && !is_sent(i) ? turns[i] + 1 : 0;
+        if (turns[i] >= c->drives)
+            differ_at("a drive has not had its turn", c, FRONT + i);
+    }
+}
+
+/* A hall tick: who is due and goes, and what becomes of the waits. */
+static void count_tick(const call *c, uint8_t refusal)
+{
+    bool outside = c->quota < 1 || c->quota > DAMPER_HALL_MOST;
+    bool by_quota = refusal == DAMPER_HALL_REFUSAL_QUOTA;
+    counts[TICK_14] += refusal == DAMPER_HALL_REFUSAL_ROW;
+    counts[TICK_16] += refusal == DAMPER_HALL_REFUSAL_CALL;
+    counts[TICK_14_18] += refusal == DAMPER_HALL_REFUSAL_ROW && outside;
+    counts[TICK_16_18] += refusal == DAMPER_HALL_REFUSAL_CALL && outside;
+    counts[TICK_18_NONE] += by_quota && c->quota == 0;
+    counts[TICK_18_OVER] += by_quota && c->quota > DAMPER_HALL_MOST;
+    counts[TICK_18_NEXT] += by_quota && c->quota == DAMPER_HALL_MOST + 1;
+    counts[TICK_18_LOW_BYTE] += by_quota && (c->quota & 255) >= 1 && (c->quota & 255) <= DAMPER_HALL_MOST;
+    counts[TICK_GIVEN] += refusal == 0;
+    if (refusal != 0)
+        return;
+    const damper_drive *row = before.row + FRONT;
+    size_t first = first_due(row, c->drives), equal = 0, lowest = c->drives;
+    bool longer = false;
+    counts[QUOTA_1] += c->quota == 1;
+    counts[QUOTA_64] += c->quota == DAMPER_HALL_MOST;
+    counts[NONE_DUE] += due == 0;
+    counts[MORE_DUE] += many(due) > c->quota;
+    counts[AS_MANY_DUE] += many(due) == c->quota;
+    counts[FEWER_DUE] += due != 0 && many(due) < c->quota;
+    for (size_t i = c->drives; i-- > 0;) {
+        uint32_t number = proved.numbers[FRONT + i];
+        bool unticked = number == DAMPER_HALL_NOT_WELL_FORMED, waited = row[i].wait > 0;
+        counts[SILENT] += number == DAMPER_HALL_SILENT;
+        counts[UNTICKED] += unticked;
+        counts[REPORT] += damper_hall_is_report(number);
+        counts[HELD] += is_due(i) && !is_sent(i);
+        counts[HELD_AT_MOST] += is_due(i) && !is_sent(i) && row[i].wait == UINT16_MAX;
+        counts[SENT_CLEARED] += is_sent(i) && waited;
+        counts[NOT_DUE_CLEARED] += !is_due(i) && !unticked && waited;
+        counts[BROKEN_KEPT] += unticked && waited;
+        lowest = is_due(i) ? i : lowest;
+        equal += first < c->drives && is_due(i) && row[i].wait == row[first].wait;
+        longer = longer || (first < c->drives && unticked && row[i].wait > row[first].wait);
+    }
+    counts[TIE] += equal > 1 && sent != due;
+    counts[NOT_LOWEST] += first != lowest;
+    counts[BROKEN_LONGER] += longer;
+}
+
 /* Counts the cases of a call; `named` says how often each drive is. */
 static void count(const call *c, uint8_t refusal, const unsigned *named)
 {
@@ -421,15 +581,7 @@ static void count(const call *c, uint8_t refusal, const unsigned *named)
     counts[EQUAL] += c->places == asked;
     counts[LONGER] += c->places > asked;
     if (c->kind == TICK_CALL) {
-        counts[TICK_14] += refusal == DAMPER_HALL_REFUSAL_ROW;
-        counts[TICK_16] += refusal == DAMPER_HALL_REFUSAL_CALL;
-        counts[TICK_GIVEN] += refusal == 0;
-        for (size_t i = 0; refusal == 0 && i < c->drives; i++) {
-            uint32_t number = proved.numbers[FRONT + i];
-            counts[SILENT] += number == DAMPER_HALL_SILENT;
-            counts[UNTICKED] += number == DAMPER_HALL_NOT_WELL_FORMED;
-            counts[REPORT] += damper_hall_is_report(number);
-        }
+        count_tick(c, refusal);
         return;
     }
     bool is_tick = accepted_tick(&c->given), over = c->entries > DAMPER_HALL_MOST, repeat = false;
@@ -465,18 +617,45 @@ static void count(const call *c, uint8_t refusal, const unsigned *named)
         }
         counts[REPEATED] += repeat;
         counts[ONCE] += !repeat && c->entries > 0;
-        for (size_t k = 0; k < c->entries; k++)
+        for (size_t k = 0; k < c->entries; k++) {
+            bool done = proved.answers[FRONT + k] == 0, waited = before.row[FRONT + c->list[k]].wait > 0;
+            bool is_restart = c->given.length > 2 && c->given.bytes[2] == DAMPER_KIND_RESTART;
             answered[proved.answers[FRONT + k]]++;
+            counts[RESTART_CLEARED] += done && is_restart && waited;
+            counts[WAIT_KEPT] += done && !is_restart && waited;
+            if (done && is_restart)
+                turns[c->list[k]] = 0;
+        }
     }
+}
+
+/* The drives that a hall tick has sent. */
+static uint64_t sent_by(const uint32_t *numbers, size_t drives)
+{
+    uint64_t found = 0;
+    for (size_t i = 0; i < drives && i < DAMPER_HALL_MOST; i++)
+        found |= (uint64_t)(numbers[i] >= DAMPER_HALL_REPORT) << i;
+    return found;
+}
+
+/* The archive's hall tick first: the plain one sends the same drives. */
+static uint8_t tick_of(lent *on, const call *c, bool archive)
+{
+    damper_drive *row = on->row + FRONT;
+    uint32_t *numbers = on->numbers + FRONT;
+    if (!archive)
+        return plain_hall_tick_sending(row, c->drives, c->quota, numbers, c->places, sent, &due);
+    uint8_t refusal = damper_hall_tick(row, c->drives, c->quota, numbers, c->places);
+    sent = refusal == 0 ? sent_by(numbers, c->drives) : 0;
+    return refusal;
 }
 
 static uint8_t call_of(lent *on, const call *c, bool archive)
 {
     damper_drive *row = on->row + FRONT;
     uint8_t *answers = on->answers + FRONT;
-    uint32_t *numbers = on->numbers + FRONT;
     if (c->kind == TICK_CALL)
-        return (archive ? damper_hall_tick : plain_hall_tick)(row, c->drives, numbers, c->places);
+        return tick_of(on, c, archive);
     if (c->kind == PAGE_CALL)
         return (archive ? damper_hall_page : plain_hall_page)(row, c->drives, on->page + PAGE_FRONT, c->places);
     return (archive ? damper_hall_event : plain_hall_event)(row, c->drives, c->list, c->entries, c->given.bytes,
@@ -512,9 +691,10 @@ static void compare(const call *c)
     if (c->kind == PAGE_CALL)
         new_page();
     memcpy(&before, &proved, sizeof before);
-    uint8_t refusal = call_of(&proved, c, true), due = call_of(&plain, c, false);
-    if (refusal != due) {
-        printf("halls: proved gives %u, plain %u\n", refusal, due);
+    uint8_t refusal = call_of(&proved, c, true);
+    uint8_t expected = call_of(&plain, c, false);
+    if (refusal != expected) {
+        printf("halls: proved gives %u, plain %u\n", refusal, expected);
         differ("the calls give different numbers", c);
     }
     if (memcmp(c->list, kept.list, sizeof kept.list) != 0 ||
@@ -522,6 +702,8 @@ static void compare(const call *c)
         differ("the list or the event has changed", &kept);
     if (refusal != 0 && memcmp(&proved, &before, sizeof proved) != 0)
         differ("refused, and something has changed", c);
+    if (refusal == 0 && c->kind == TICK_CALL)
+        judge_choice(c);
 
     unsigned named[ROOM] = {0};
     if (refusal == 0 && c->kind != PAGE_CALL)
@@ -545,13 +727,142 @@ static void new_hall(void)
     uint8_t *bytes = (uint8_t *)&proved;
     for (size_t i = 0; i < sizeof proved; i++)
         bytes[i] = (uint8_t)(i * 151 + 7);
-    for (size_t at = 0; at < ROOM; at++)
-        proved.row[at] = random_drive();
+    bool busy = random_below(2), alike = random_below(3) == 0;
+    uint16_t wait = random_wait();
+    for (size_t at = 0; at < ROOM; at++) {
+        proved.row[at] = random_drive(busy);
+        if (alike)
+            proved.row[at].wait = (uint16_t)(wait - (wait > 0 && random_below(4) == 0));
+    }
     memcpy(&plain, &proved, sizeof plain);
+    memset(turns, 0, sizeof turns);
+}
+
+/* The bytes of a record, 16-bit numbers as the host has them. */
+
+#define RECORD 46
+
+static void put_16(uint8_t *record, size_t place, uint16_t number)
+{
+    memcpy(record + place, &number, sizeof number);
+}
+
+static void put_fresh(uint8_t *record)
+{
+    damper_drive d;
+    plain_fresh(&d);
+    memset(record, 0, RECORD);
+    for (size_t i = 0; i < DAMPER_PARAMETERS; i++)
+        put_16(record, 2 + 2 * i, d.params[i]);
+}
+
+/* The bytes of no field aside. */
+static void same_bytes(const char *what, const void *memory, const uint8_t *expected, size_t bytes)
+{
+    const uint8_t *found = memory;
+    for (size_t at = 0; at < bytes; at++)
+        if (found[at] != expected[at] && (at >= 3 * RECORD || (at % RECORD != 1 && at % RECORD != 43))) {
+            printf("halls: %s: byte %zu of record %zu is %u, not %u\n", what, at % RECORD, at / RECORD, found[at],
+                   expected[at]);
+            exit(1);
+        }
+}
+
+/* Three records in memory, at bytes 0, 46 and 92, and room for one behind them that is not lent. */
+static void row_of_three(void)
+{
+    uint8_t bytes[4 * RECORD], *first = bytes, *second = bytes + RECORD, *third = bytes + 2 * RECORD;
+    memset(bytes, 0xEE, sizeof bytes);
+    put_fresh(first); /* due, by hand toward 100, wait 263 */
+    put_16(first, 8, 1);
+    put_16(first, 18, 1);
+    first[0] = 10;
+    first[28] = 1;
+    first[29] = 100;
+    put_16(first, 38, 258);
+    first[40] = 1;
+    first[41] = 9;
+    first[42] = 32;
+    put_16(first, 44, 263);
+    put_fresh(second); /* no run with 9 ticks left */
+    second[0] = 11;
+    second[37] = 9;
+    put_16(second, 38, 772);
+    put_16(second, 44, 1541);
+    put_fresh(third); /* due, forced to 255 by Rate 17, wait 264 */
+    put_16(third, 8, 1);
+    put_16(third, 18, 1);
+    put_16(third, 20, 17);
+    third[0] = 200;
+    third[27] = 3;
+    put_16(third, 38, 255);
+    put_16(third, 44, 264);
+
+    void *memory = malloc(sizeof bytes);
+    if (memory == NULL)
+        exit(1);
+    memcpy(memory, bytes, sizeof bytes);
+    damper_drive *row = memory;
+    uint32_t numbers[4] = {7, 7, 7, 7};
+    uint8_t number = damper_hall_tick(row, 3, 1, numbers, 4);
+    if (number != 0 || numbers[0] != 0 || numbers[1] != 1 || numbers[2] != 65536 + 256 * 217 + 48 || numbers[3] != 7) {
+        printf("halls: a row of three answers %u with %lu %lu %lu %lu\n", number, (unsigned long)numbers[0],
+               (unsigned long)numbers[1], (unsigned long)numbers[2], (unsigned long)numbers[3]);
+        exit(1);
+    }
+    first[0] = 15;
+    put_16(first, 38, 259);
+    put_16(first, 44, 264);
+    third[0] = third[41] = 217;
+    third[40] = 1;
+    third[42] = 48;
+    put_16(third, 38, 0);
+    put_16(third, 44, 0);
+    same_bytes("a row of three after a hall tick", memory, bytes, sizeof bytes);
+
+    /* A restart of the third, then of the first. */
+    event restart = event_of(DAMPER_KIND_RESTART, 0, 0, 0);
+    uint8_t answers[4] = {7, 7, 7, 7};
+    number = damper_hall_event(row, 3, (uint32_t[]){2, 1, 0}, 3, restart.bytes, restart.length, answers, 4);
+    if (number != 0 || memcmp(answers, (uint8_t[]){0, 1, 0, 7}, 4) != 0) {
+        printf("halls: a restart in a row of three answers %u\n", number);
+        exit(1);
+    }
+    memset(first + 26, 0, RECORD - 26);
+    memset(third + 26, 0, RECORD - 26);
+    same_bytes("a row of three after a restart", memory, bytes, sizeof bytes);
+    free(memory);
+}
+
+/* Each drive has its turn in as many hall ticks as there are drives, all being due. */
+static void each_turn(void)
+{
+    for (size_t drives = 1; drives <= DAMPER_HALL_MOST; drives++) {
+        damper_drive row[DAMPER_HALL_MOST];
+        uint32_t numbers[DAMPER_HALL_MOST], found[DAMPER_HALL_MOST] = {0};
+        for (size_t i = 0; i < drives; i++) {
+            plain_fresh(&row[i]);
+            row[i].params[DAMPER_PLACE_MIN_REP_TIME] = row[i].params[DAMPER_PLACE_REP_PER] = 1;
+            row[i].wait = random_wait();
+        }
+        for (size_t ticks = 0; ticks < drives; ticks++) {
+            if (damper_hall_tick(row, drives, 1, numbers, drives) != 0)
+                exit(1);
+            for (size_t i = 0; i < drives; i++)
+                found[i] += numbers[i] >= DAMPER_HALL_REPORT;
+        }
+        for (size_t i = 0; i < drives; i++)
+            if (found[i] != 1) {
+                printf("halls: drive %zu of %zu is sent %lu times\n", i, drives, (unsigned long)found[i]);
+                exit(1);
+            }
+    }
 }
 
 int main(void)
 {
+    row_of_three();
+    each_turn();
     plain_fresh(&met);
     for (unsigned long made = 0; made < CALLS;) {
         new_hall();
@@ -563,8 +874,8 @@ int main(void)
     }
 
     unsigned long calls = counts[EVENT_GIVEN] + counts[EVENT_14] + counts[EVENT_15] + counts[EVENT_16] + counts[TICK_GIVEN] +
-                          counts[TICK_14] + counts[TICK_16] + counts[PAGE_EXACT] + counts[PAGE_MORE] + counts[PAGE_LONGER] +
-                          counts[PAGE_14] + counts[PAGE_17];
+                          counts[TICK_14] + counts[TICK_16] + counts[TICK_18_NONE] + counts[TICK_18_OVER] + counts[PAGE_EXACT] +
+                          counts[PAGE_MORE] + counts[PAGE_LONGER] + counts[PAGE_14] + counts[PAGE_17];
     printf("halls in C: %lu calls agree; met:", calls);
     for (int i = 0; i < COUNTS; i++)
         printf("%s %s %lu", i > 0 ? "," : "", texts[i], counts[i]);

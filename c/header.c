@@ -448,7 +448,7 @@ static bool same(damper_drive x, damper_drive y)
 {
     return x.position == y.position && !memcmp(x.params, y.params, sizeof x.params) &&
            !memcmp(&x.commands, &y.commands, sizeof x.commands) && x.age == y.age && !memcmp(&x.run, &y.run, sizeof x.run) &&
-           x.since == y.since && !memcmp(&x.last, &y.last, sizeof x.last);
+           x.since == y.since && !memcmp(&x.last, &y.last, sizeof x.last) && x.wait == y.wait;
 }
 
 static unsigned give_hall(size_t drives, const uint32_t *list, size_t entries, const uint8_t *bytes, size_t length,
@@ -458,10 +458,10 @@ static unsigned give_hall(size_t drives, const uint32_t *list, size_t entries, c
     return damper_hall_event(now.row, drives, list, entries, bytes, length, now.answers, places);
 }
 
-static unsigned tick_hall(size_t drives, size_t places)
+static unsigned tick_hall(size_t drives, uint32_t quota, size_t places)
 {
     memcpy(&was, &now, sizeof now);
-    return damper_hall_tick(now.row, drives, now.numbers, places);
+    return damper_hall_tick(now.row, drives, quota, now.numbers, places);
 }
 
 static unsigned page_hall(size_t drives, size_t bytes)
@@ -620,11 +620,15 @@ static void hall_refusals(damper_drive fresh)
     CHECK(give_hall(1, list, 1, a_setpoint, 0, 0) == no_call && untouched());
 
     fill_hall(fresh);
-    CHECK(tick_hall(0, 6) == no_hall && untouched() && tick_hall(0, 0) == no_hall && untouched());
-    CHECK(tick_hall(most + 1, most + 6) == no_hall && untouched() && tick_hall(most + 1, 0) == no_hall && untouched());
-    CHECK(tick_hall(1, 0) == no_call && untouched() && tick_hall(most, most - 1) == no_call && untouched());
-    CHECK(tick_hall(1, 1) == 0 && now.row[0].since == 1 && kept(1, most + 1) && rest_kept(0, 1));
-    CHECK(tick_hall(most, most) == 0 && now.row[0].since == 2 && kept(most, most + 1) && rest_kept(0, most));
+    CHECK(tick_hall(0, 1, 6) == no_hall && untouched() && tick_hall(0, 0, 0) == no_hall && untouched());
+    CHECK(tick_hall(most + 1, 1, most + 6) == no_hall && untouched() && tick_hall(most + 1, 0, 0) == no_hall && untouched());
+    CHECK(tick_hall(1, 1, 0) == no_call && untouched() && tick_hall(most, 0, most - 1) == no_call && untouched());
+    /* 18: a quota of none, of over 64, and some whose lowest byte is a quota. */
+    const uint32_t quotas[] = {0, DAMPER_HALL_QUOTA + 1, 256, 257, 65536 + 8, UINT32_MAX};
+    for (size_t i = 0; i < sizeof quotas / sizeof quotas[0]; i++)
+        CHECK(tick_hall(most, quotas[i], most) == DAMPER_HALL_REFUSAL_QUOTA && untouched());
+    CHECK(tick_hall(1, 1, 1) == 0 && now.row[0].since == 1 && kept(1, most + 1) && rest_kept(0, 1));
+    CHECK(tick_hall(most, DAMPER_HALL_QUOTA, most) == 0 && now.row[0].since == 2 && kept(most, most + 1) && rest_kept(0, most));
     for (size_t i = 1; i < most; i++)
         CHECK(now.row[i].since == 1 && now.numbers[i] == DAMPER_HALL_SILENT);
 }
@@ -640,13 +644,13 @@ static void hall_numbers(damper_drive fresh)
         after(quick, DAMPER_KIND_FORCING, DAMPER_FORCING_TO_255, 0, 0),
     };
     const uint32_t due[5] = {0, 1, 65536 + 256 * 100 + 34, 65536, 65536 + 256 * 255 + 48};
-    fill_hall(fresh);
-    memcpy(now.row, row, sizeof row);
-    CHECK(tick_hall(5, sizeof now.numbers / sizeof now.numbers[0]) == 0 && kept(5, DAMPER_HALL_MOST + 1) && rest_kept(0, 5));
     for (size_t i = 0; i < 5; i++) {
+        fill_hall(fresh);
+        now.row[0] = row[i];
+        CHECK(tick_hall(1, 1, sizeof now.numbers / sizeof now.numbers[0]) == 0 && kept(1, DAMPER_HALL_MOST + 1) && rest_kept(0, 1));
         damper_stepped s = give(row[i], DAMPER_KIND_TICK, 0, 0, 0);
-        uint32_t number = now.numbers[i];
-        CHECK(number == due[i] && same(now.row[i], s.drive));
+        uint32_t number = now.numbers[0];
+        CHECK(number == due[i] && same(now.row[0], s.drive));
         CHECK((number == DAMPER_HALL_SILENT) == (i == 0) && (number == DAMPER_HALL_NOT_WELL_FORMED) == (i == 1));
         CHECK(damper_hall_is_report(number) == damper_is_report(s.word));
         CHECK(damper_hall_position(number) == (i < 2 ? 0 : damper_answer_position(s.word, s.code)));
@@ -657,13 +661,36 @@ static void hall_numbers(damper_drive fresh)
     CHECK(!damper_hall_is_report(DAMPER_HALL_REPORT - 1) && damper_hall_is_report(DAMPER_HALL_REPORT));
     CHECK(damper_hall_position(130879) == 255 && damper_hall_status(130879) == 63);
 
-    /* Document 01's row m1, in each place of a hall. */
+}
+
+/* Document 01's row m1 in a hall of three with a quota of 1, so that it is decided who is sent: one a tick, in order. */
+static void hall_quota(damper_drive fresh)
+{
     fill_hall(fresh);
-    for (int ticks = 1; ticks <= 10; ticks++) {
-        CHECK(tick_hall(3, 3) == 0);
-        for (size_t i = 0; i < 3; i++)
-            CHECK(now.numbers[i] == (ticks < 10 ? DAMPER_HALL_SILENT : DAMPER_HALL_REPORT + 32u));
+    for (unsigned ticks = 1; ticks <= 13; ticks++) {
+        CHECK(tick_hall(3, 1, 3) == 0);
+        for (unsigned i = 0; i < 3; i++) {
+            CHECK(now.numbers[i] == (ticks == 10 + i ? DAMPER_HALL_REPORT + 32u : DAMPER_HALL_SILENT));
+            CHECK(now.row[i].wait == (ticks >= 10 && ticks < 10 + i ? ticks - 9 : 0));
+            CHECK(now.row[i].since == (ticks >= 10 + i ? ticks - 10 - i : ticks));
+            CHECK(now.row[i].last.reported == (ticks >= 10 + i));
+        }
     }
+
+    /* The longest wait first, at 65,535 the lower number, and no tick alone, event or damage changes a wait but a restart. */
+    damper_drive quick = with_setpoint(with_param(fresh, DAMPER_NUMBER_MIN_REP_TIME, 1), 128);
+    fill_hall(quick);
+    now.row[1].wait = 7;
+    now.row[2].wait = now.row[3].wait = UINT16_MAX;
+    now.row[4].commands.hand = 2;
+    now.row[4].wait = 9;
+    CHECK(tick_hall(5, 1, 5) == 0);
+    CHECK(damper_hall_is_report(now.numbers[2]) && now.row[2].wait == 0 && now.row[2].since == 0);
+    CHECK(now.numbers[0] == DAMPER_HALL_SILENT && now.row[0].wait == 1 && now.row[0].since == 1 && now.row[0].position == 5);
+    CHECK(now.row[1].wait == 8 && now.row[3].wait == UINT16_MAX && now.row[4].wait == 9 && kept(4, DAMPER_HALL_MOST + 1));
+    damper_drive waited = now.row[1];
+    CHECK(give(waited, DAMPER_KIND_TICK, 0, 0, 0).drive.wait == 8 && after(waited, DAMPER_KIND_SETPOINT, 3, 0, 0).wait == 8);
+    CHECK(after(waited, DAMPER_KIND_RESTART, 0, 0, 0).wait == 0 && damper_well_formed(waited) && fresh.wait == 0);
 }
 
 /* The shift page: a line for each commander, a damaged drive, the status of the record as it is, and the refusals. */
@@ -744,8 +771,8 @@ static void null_pointers(damper_drive fresh)
     CHECK(damper_hall_event(&fresh, 1, NULL, 0, NULL, 0, NULL, 0) == 0);
     CHECK(damper_hall_event(&fresh, 1, list, 1, NULL, 0, &word, 1) == 0 && word == DAMPER_REFUSAL_LENGTH);
     CHECK(damper_hall_event(&fresh, 1, list, 1, NULL, 0, NULL, 0) == DAMPER_HALL_REFUSAL_CALL);
-    CHECK(damper_hall_tick(NULL, 0, NULL, 0) == DAMPER_HALL_REFUSAL_ROW);
-    CHECK(damper_hall_tick(&fresh, 1, NULL, 0) == DAMPER_HALL_REFUSAL_CALL && fresh.since == 0);
+    CHECK(damper_hall_tick(NULL, 0, 1, NULL, 0) == DAMPER_HALL_REFUSAL_ROW);
+    CHECK(damper_hall_tick(&fresh, 1, 1, NULL, 0) == DAMPER_HALL_REFUSAL_CALL && fresh.since == 0);
     CHECK(damper_hall_page(NULL, 0, NULL, 0) == DAMPER_HALL_REFUSAL_ROW);
     CHECK(damper_hall_page(&fresh, 1, NULL, 0) == DAMPER_HALL_REFUSAL_PAGE);
 }
@@ -767,6 +794,7 @@ int main(void)
     hall_events(fresh);
     hall_refusals(fresh);
     hall_numbers(fresh);
+    hall_quota(fresh);
     hall_page(fresh);
     null_pointers(fresh);
     printf("header in %s: %u checks agree with the archives\n",

@@ -1,6 +1,6 @@
 /*
- * The damper drive of document 01, with the percents of request W-202, the hall of request W-201 and the shift page of request
- * W-203.
+ * The damper drive of document 01, with the percents of request W-202, the hall of request W-201 with the quota of request
+ * W-204, and the shift page of request W-203.
  */
 #include "plain.h"
 
@@ -223,25 +223,36 @@ static bool report_due(const damper_drive *d, uint8_t now)
            d->since >= d->params[DAMPER_PLACE_REP_PER];
 }
 
-static answer tick(damper_drive *d)
+/* Steps 1 to 3; gives the rank that ruled. */
+static uint8_t advance(damper_drive *d)
 {
     count_one(&d->since);
     if (d->commands.stored)
         count_one(&d->age);
-
-    uint8_t before = d->position;
     uint8_t rank = ruling_rank(d);
-    d->position = moved(before, target_of(d, rank), d->params[DAMPER_PLACE_RATE]);
+    d->position = moved(d->position, target_of(d, rank), d->params[DAMPER_PLACE_RATE]);
     pass_tick_of_run(d);
+    return rank;
+}
 
-    uint32_t code = code_of(d->position, rank, motor(d, before));
-    uint8_t now = status(d);
-    if (!report_due(d, now))
-        return (answer){DAMPER_WORD_TICK, code};
+/* Step 4 where it reports. */
+static void report(damper_drive *d, uint8_t now)
+{
     d->since = 0;
     d->last.reported = 1;
     d->last.position = d->position;
     d->last.status = now;
+}
+
+static answer tick(damper_drive *d)
+{
+    uint8_t before = d->position;
+    uint8_t rank = advance(d);
+    uint32_t code = code_of(d->position, rank, motor(d, before));
+    uint8_t now = status(d);
+    if (!report_due(d, now))
+        return (answer){DAMPER_WORD_TICK, code};
+    report(d, now);
     return (answer){DAMPER_WORD_REPORT, code << 8 | now};
 }
 
@@ -334,6 +345,7 @@ static answer restart(damper_drive *d)
     memset(&d->last, 0, sizeof d->last);
     d->age = 0;
     d->since = 0;
+    d->wait = 0;
     end_run(d);
     if (d->params[DAMPER_PLACE_START_SYNCHRONIZATION])
         start_run(d, d->params[DAMPER_PLACE_START_SYNCHRONIZATION] == 1 ? DAMPER_RUN_SYNC_CLOSE : DAMPER_RUN_SYNC_OPEN);
@@ -433,21 +445,91 @@ uint8_t plain_hall_event(damper_drive *row, size_t drives, const uint32_t *list,
     return 0;
 }
 
-uint8_t plain_hall_tick(damper_drive *row, size_t drives, uint32_t *numbers, size_t places)
+static uint8_t judge_tick(size_t drives, uint32_t quota, size_t places)
 {
     if (!hall_fits(drives))
         return DAMPER_HALL_REFUSAL_ROW;
     if (places < drives)
         return DAMPER_HALL_REFUSAL_CALL;
+    return quota < 1 || quota > DAMPER_HALL_MOST ? DAMPER_HALL_REFUSAL_QUOTA : 0;
+}
+
+/* Steps 1 to 3 for every drive, and the numbers without a report. Gives the due drives, drive i at bit i; they have their wait
+ * still, and `now` has the status of each. */
+static uint64_t advance_all(damper_drive *row, size_t drives, uint32_t *numbers, uint8_t *now)
+{
+    uint64_t due = 0;
     for (size_t i = 0; i < drives; i++) {
         damper_drive *d = &row[i];
-        if (!plain_well_formed(d))
+        if (!plain_well_formed(d)) {
             numbers[i] = DAMPER_HALL_NOT_WELL_FORMED;
-        else if (damper_is_report(tick(d).word))
-            numbers[i] = DAMPER_HALL_REPORT + 256u * d->last.position + d->last.status;
+            continue;
+        }
+        advance(d);
+        numbers[i] = DAMPER_HALL_SILENT;
+        now[i] = status(d);
+        if (report_due(d, now[i]))
+            due |= (uint64_t)1 << i;
         else
-            numbers[i] = DAMPER_HALL_SILENT;
+            d->wait = 0;
     }
+    return due;
+}
+
+/* The due drive that waited longest, of equals the lowest; one is due. */
+static size_t longest(const damper_drive *row, size_t drives, uint64_t due)
+{
+    size_t first = drives;
+    for (size_t i = 0; i < drives; i++)
+        if (due >> i & 1 && (first == drives || row[i].wait > row[first].wait))
+            first = i;
+    return first;
+}
+
+/* A drive that is due goes, or waits one hall tick more. */
+static void settle(damper_drive *d, bool sent, uint8_t now, uint32_t *number)
+{
+    if (!sent) {
+        count_one(&d->wait);
+        return;
+    }
+    report(d, now);
+    d->wait = 0;
+    *number = DAMPER_HALL_REPORT + 256u * d->position + now;
+}
+
+/* The one that waited longest, then the lowest numbers as far as the quota goes. */
+uint8_t plain_hall_tick(damper_drive *row, size_t drives, uint32_t quota, uint32_t *numbers, size_t places)
+{
+    uint8_t refusal = judge_tick(drives, quota, places), now[DAMPER_HALL_MOST];
+    if (refusal != 0)
+        return refusal;
+    uint64_t due = advance_all(row, drives, numbers, now);
+    if (due == 0)
+        return 0;
+    size_t first = longest(row, drives, due);
+    uint32_t others = quota - 1;
+    for (size_t i = 0; i < drives; i++) {
+        if (!(due >> i & 1))
+            continue;
+        bool sent = i == first || others > 0;
+        others -= i != first && others > 0;
+        settle(&row[i], sent, now[i], &numbers[i]);
+    }
+    return 0;
+}
+
+uint8_t plain_hall_tick_sending(damper_drive *row, size_t drives, uint32_t quota, uint32_t *numbers, size_t places,
+                                uint64_t sent, uint64_t *due)
+{
+    uint8_t refusal = judge_tick(drives, quota, places), now[DAMPER_HALL_MOST];
+    *due = 0;
+    if (refusal != 0)
+        return refusal;
+    *due = advance_all(row, drives, numbers, now);
+    for (size_t i = 0; i < drives; i++)
+        if (*due >> i & 1)
+            settle(&row[i], sent >> i & 1, now[i], &numbers[i]);
     return 0;
 }
 

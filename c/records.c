@@ -1,16 +1,19 @@
 /*
  * Any bytes are a drive record: the proved drive, as a C host calls it, beside the plain one. Every flag byte on several
  * records, records of random bytes, and well-formed records with one byte changed; well-formedness, answer and every field
- * after an event must agree.
+ * after an event must agree. A restart clears the wait, and no other event changes it.
  */
 #include "compare.h"
 #include "plain.h"
 
+#include <stddef.h>
 #include <stdio.h>
 #include <stdlib.h>
 #include <string.h>
 
-static unsigned long steps, well_formed, carried_out;
+_Static_assert(sizeof(damper_drive) == 46 && offsetof(damper_drive, wait) == 44, "the layout of a record");
+
+static unsigned long steps, well_formed, carried_out, waits_cleared, waits_kept;
 
 static void differ(const char *what, const damper_drive *before, const event *e, const damper_stepped *proved,
                    const damper_stepped *plain)
@@ -41,11 +44,16 @@ static bool compare(const damper_drive *before, const event *e)
         differ("the records after differ", before, e, &proved, &plain);
     if (proved.word == DAMPER_WORD_NO && !same(&proved.drive, before))
         differ("refused, and the record changes", before, e, &proved, &plain);
+    bool restarted = proved.word != DAMPER_WORD_NO && e->bytes[2] == DAMPER_KIND_RESTART;
+    if (proved.drive.wait != (restarted ? 0 : before->wait))
+        differ("restarted and the wait is kept, or it changes", before, e, &proved, &plain);
     if (fits == (damper_answer_refusal(proved.word, proved.code) == DAMPER_REFUSAL_RECORD))
         differ("well formed and refused by 1, or neither", before, e, &proved, &plain);
     steps++;
     well_formed += fits;
     carried_out += proved.word != DAMPER_WORD_NO;
+    waits_cleared += restarted && before->wait > 0;
+    waits_kept += proved.word != DAMPER_WORD_NO && !restarted && before->wait > 0;
     return proved.word != DAMPER_WORD_NO;
 }
 
@@ -113,6 +121,8 @@ static void one_byte_changed(int records)
     damper_drive met = damper_fresh();
     for (int i = 0; i < records; i++) {
         event e = random_event();
+        if (random_below(4) == 0)
+            met.wait = (uint16_t)(random_below(2) ? UINT16_MAX - random_below(2) : random_below(UINT16_MAX));
         compare(&met, &e);
         met = damper_step(met, e.bytes, e.length).drive;
 
@@ -157,7 +167,11 @@ int main(void)
     one_byte_changed(1000000);
     written_events(100000);
     printf("records in C: %lu steps over every flag byte and %lu on random bytes, on a list and with one byte changed agree; "
-           "%lu on well-formed records, %lu carried out\n",
-           with_flags, steps - with_flags, well_formed, carried_out);
+           "%lu on well-formed records, %lu carried out; waits kept %lu, cleared %lu\n",
+           with_flags, steps - with_flags, well_formed, carried_out, waits_kept, waits_cleared);
+    if (waits_kept < 1000 || waits_cleared < 1000) {
+        printf("records: too seldom: waits\n");
+        return 1;
+    }
     return 0;
 }

@@ -39,7 +39,7 @@ static uint8_t (*volatile write_event)(uint8_t *, size_t, uint8_t, uint8_t, uint
 static damper_replayed (*volatile replay)(damper_drive, const uint8_t *, size_t, uint8_t *, size_t, uint32_t *, size_t);
 static uint8_t (*volatile hall_event)(damper_drive *, size_t, const uint32_t *, size_t, const uint8_t *, size_t, uint8_t *,
                                       size_t);
-static uint8_t (*volatile hall_tick)(damper_drive *, size_t, uint32_t *, size_t);
+static uint8_t (*volatile hall_tick)(damper_drive *, size_t, uint32_t, uint32_t *, size_t);
 static uint8_t (*volatile hall_page)(const damper_drive *, size_t, uint8_t *, size_t);
 
 static damper_drive drive;
@@ -66,7 +66,7 @@ static void call_hall_event(void)
 {
     refusal = hall_event(row, DAMPER_HALL_MOST, list, DAMPER_HALL_MOST, event, DAMPER_EVENT_LENGTH, answers, DAMPER_HALL_MOST);
 }
-static void call_hall_tick(void) { refusal = hall_tick(row, DAMPER_HALL_MOST, numbers, DAMPER_HALL_MOST); }
+static void call_hall_tick(void) { refusal = hall_tick(row, DAMPER_HALL_MOST, 8, numbers, DAMPER_HALL_MOST); }
 static void call_hall_page(void) { refusal = hall_page(row, DAMPER_HALL_MOST, page, sizeof page); }
 
 #define POINT(pointer, function) pointer = archive ? function : (__typeof__(&function))nothing

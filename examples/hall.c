@@ -1,6 +1,6 @@
 /*
  * A host of a hall: it holds the records of three dampers in one row, gives events to those that a list names, ticks them
- * all each second, logs their reports, and prints the shift page at the end.
+ * all each second with at most one report, logs the reports, and prints the shift page at the end.
  *
  *     cc -I include examples/hall.c target/staticlib/libhost.a target/staticlib/libhall_event.a \
  *         target/staticlib/libhall_tick.a target/staticlib/libhall_page.a -o hall && ./hall
@@ -10,6 +10,7 @@
 #include <stdio.h>
 
 #define DRIVES 3
+#define QUOTA 1 /* reports a second, at most */
 
 static damper_drive row[DRIVES];
 
@@ -29,8 +30,8 @@ static void give(const uint32_t *list, size_t entries, uint8_t kind, uint8_t a, 
 static void tick(int second)
 {
     uint32_t numbers[DRIVES];
-    if (damper_hall_tick(row, DRIVES, numbers, DRIVES))
-        return; /* never: there are 1 to 64 drives, and a place for each */
+    if (damper_hall_tick(row, DRIVES, QUOTA, numbers, DRIVES))
+        return; /* never: there are 1 to 64 drives, a place for each, and a quota of 1 to 64 */
     for (unsigned i = 0; i < DRIVES; i++) {
         if (damper_hall_is_report(numbers[i]))
             printf("%3d s, drive %u: position %u, status %u\n", second, i, damper_hall_position(numbers[i]),

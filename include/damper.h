@@ -3,7 +3,7 @@
  * C11 and C++ on x86-64 Linux. Link libhost.a for single events, libhost_replay.a for damper_replay, libhall_event.a,
  * libhall_tick.a and libhall_page.a for the three calls of a hall, or any of these together: none needs another.
  *
- * A drive is a record of 44 bytes, and the host holds it. The host gives it event records of six bytes, one after the
+ * A drive is a record of 46 bytes, and the host holds it. The host gives it event records of six bytes, one after the
  * other: a tick each second, and setpoints, forcing, hand, calibration, faults, parameter writes, restarts and reads as
  * they come. Each call gives the record after the event, and an answer. At a tick the damper moves toward the target of
  * whoever commands, and the answer says how its motor turns. Some ticks report position and status; a log of what the
@@ -16,8 +16,12 @@
  *         printf("position %u\n", damper_answer_position(s.word, s.code));
  *
  * A host of a hall holds up to 64 records in one row and lends it: damper_hall_event gives an event to the drives that a
- * list names, damper_hall_tick ticks them all, and the records are changed where they are. damper_hall_page only reads them:
- * it writes the shift page, a printed line for each drive.
+ * list names, damper_hall_tick ticks them all and sends at most a quota of reports, and the records are changed where they
+ * are. damper_hall_page only reads them: it writes the shift page, a printed line for each drive.
+ *
+ * Since request W-204 the record has the field `wait` at its end and 46 bytes in place of 44, and damper_hall_tick takes a
+ * quota. A host that was built before must be built again with this header before it links these archives, and stored records
+ * of 44 bytes get two bytes of 0 behind them.
  *
  * Of every function below holds:
  *   - A pointer is valid for its length; NULL will do for a length of 0. Bytes that are written to overlap no others that
@@ -28,8 +32,8 @@
  *     may call it at any time.
  *   - It takes at most DAMPER_STACK bytes of stack below the caller's frame, the red zone of the x86-64 ABI among them.
  *
- * Numbers are document 01's, those of a hall request W-201's, percents request W-202's, those of the shift page W-203's. A
- * position is 0 to 255, where 255 is 100 %; a time is in ticks of a second.
+ * Numbers are document 01's, those of a hall request W-201's, percents request W-202's, those of the shift page W-203's, those
+ * of the quota W-204's. A position is 0 to 255, where 255 is 100 %; a time is in ticks of a second.
  */
 #ifndef DAMPER_H
 #define DAMPER_H
@@ -48,6 +52,7 @@ extern "C" {
 #define DAMPER_STACK 512      /* bytes of stack that a call takes at most */
 #define DAMPER_HALL_MOST 64   /* drives of a hall, and entries of a list, at most */
 #define DAMPER_HALL_LINE 29   /* bytes of a drive's line on the shift page, the line feed among them */
+#define DAMPER_HALL_QUOTA 64  /* reports that a hall tick may be asked to send, at most */
 
 /* An event record: these two bytes, the kind, then data bytes a, b and c, of which unused ones are 0. */
 #define DAMPER_MARK_0 0x5A
@@ -200,11 +205,12 @@ enum damper_hall_refusal {
     DAMPER_HALL_REFUSAL_ROW = 14,    /* the row has no drive, or over DAMPER_HALL_MOST */
     DAMPER_HALL_REFUSAL_NUMBER = 15, /* a number of the list is not below the row's length */
     DAMPER_HALL_REFUSAL_CALL = 16,   /* an accepted tick, a list over DAMPER_HALL_MOST, or too few places for the answers */
-    DAMPER_HALL_REFUSAL_PAGE = 17    /* the page has fewer than DAMPER_HALL_LINE bytes for each drive */
+    DAMPER_HALL_REFUSAL_PAGE = 17,   /* the page has fewer than DAMPER_HALL_LINE bytes for each drive */
+    DAMPER_HALL_REFUSAL_QUOTA = 18   /* the quota is not 1 to DAMPER_HALL_QUOTA */
 };
 
 /* What damper_hall_tick says of a drive: one of the first two, or the third + 256 * position + status. */
-#define DAMPER_HALL_SILENT 0          /* a tick with no report */
+#define DAMPER_HALL_SILENT 0          /* a tick with no report: none is due, or it is held */
 #define DAMPER_HALL_NOT_WELL_FORMED 1 /* no tick: the drive record is not well formed */
 #define DAMPER_HALL_REPORT 65536      /* a tick with a report */
 
@@ -253,7 +259,7 @@ typedef struct damper_report {
 } damper_report;
 
 /*
- * The drive record. A host may store its 44 bytes (16-bit numbers have their low byte first) and restore them: any bytes
+ * The drive record. A host may store its 46 bytes (16-bit numbers have their low byte first) and restore them: any bytes
  * are a record, and one that is not well formed is refused by 1. Bytes 1 and 43 belong to no field and may hold anything,
  * so compare records by field, and set these two to 0 in what is stored.
  */
@@ -265,6 +271,7 @@ typedef struct damper_drive {
     damper_run run;                      /* none beside a fault or forcing of 2 or 3 */
     uint16_t since;                      /* ticks since the last report or restart, stopping at 65,535 */
     damper_report last;
+    uint16_t wait;                       /* hall ticks in a row with a report due and not sent, stopping at 65,535 */
 } damper_drive;
 
 /* What damper_step gives. */
@@ -358,15 +365,23 @@ uint8_t damper_hall_event(damper_drive *row, size_t drives, const uint32_t *list
  */
 
 /*
- * Ticks every drive of the row, and gives 0. numbers[i] is then DAMPER_HALL_REPORT + 256 * position + status if drive i
- * reports, DAMPER_HALL_SILENT if it does not, and DAMPER_HALL_NOT_WELL_FORMED if its record is not well formed, which stays
- * as it is. So do the places of the numbers from `drives` on. Rank and motor are not said; where a damper is to stand after
- * the tick, its record says.
+ * Ticks every drive of the row, and gives 0; of the reports that are due it sends at most `quota`. A report is due where a
+ * tick given to the drive alone would report. If any is due, the drive that waited longest is sent, of several the one with
+ * the lower number; which others are sent is not promised. One that is due and not sent waits: it moves and its counts rise as
+ * at any tick, its last report stays as it is, the ticks since are not set to 0, and `wait` rises by one, up to 65,535. Sent, or
+ * not due, it has wait 0. A restart sets wait to 0 too; no other event changes it, nor does a tick given to the drive alone.
  *
- * The call is turned down by 14 if drives is 0 or over 64, otherwise by 16 if places is below drives, and then both rows stay
- * as they are.
+ * numbers[i] is then DAMPER_HALL_REPORT + 256 * position + status if drive i is sent, DAMPER_HALL_SILENT if it is not, and
+ * DAMPER_HALL_NOT_WELL_FORMED if its record is not well formed, which stays as it is. So do the places of the numbers from
+ * `drives` on. Rank and motor are not said; where a damper is to stand after the tick, its record says.
+ *
+ * A drive that is due at each of as many hall ticks in a row as the row has drives, and is not restarted between them, is sent
+ * at one of these, provided that nobody else writes the row and its length stays the same.
+ *
+ * The call is turned down by 14 if drives is 0 or over 64, otherwise by 16 if places is below drives, otherwise by 18 if the
+ * quota is not 1 to 64, and then both rows stay as they are.
  */
-uint8_t damper_hall_tick(damper_drive *row, size_t drives, uint32_t *numbers, size_t places);
+uint8_t damper_hall_tick(damper_drive *row, size_t drives, uint32_t quota, uint32_t *numbers, size_t places);
 
 /*
  * libhall_page.a
@@ -490,7 +505,7 @@ static inline uint8_t damper_hall_status(uint32_t number)
 DAMPER_SIZE(damper_commands, 8);
 DAMPER_SIZE(damper_run, 2);
 DAMPER_SIZE(damper_report, 3);
-DAMPER_SIZE(damper_drive, 44);
+DAMPER_SIZE(damper_drive, 46);
 DAMPER_AT(damper_drive, position, 0);
 DAMPER_AT(damper_drive, params, 2);
 DAMPER_AT(damper_drive, commands, 26);
@@ -511,9 +526,10 @@ DAMPER_AT(damper_drive, last, 40);
 DAMPER_AT(damper_drive, last.reported, 40);
 DAMPER_AT(damper_drive, last.position, 41);
 DAMPER_AT(damper_drive, last.status, 42);
+DAMPER_AT(damper_drive, wait, 44);
 DAMPER_SIZE(damper_stepped, 52);
 DAMPER_AT(damper_stepped, drive, 0);
-DAMPER_AT(damper_stepped, word, 44);
+DAMPER_AT(damper_stepped, word, 46);
 DAMPER_AT(damper_stepped, code, 48);
 DAMPER_SIZE(damper_event, 5);
 DAMPER_AT(damper_event, refusal, 0);

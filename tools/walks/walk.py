@@ -5,8 +5,8 @@ function's MIR step by step in a context, a list of what is owned, and names eac
 parts have names, and the positions are printed. A local of the MIR is `_3`, and `d3` what frees it.
 
 A `Walk` holds what one function is passed and which functions it calls, and writes the file around its steps: one turn
-of the loop and the way out behind it, and the way to the loop. The function has one loop of `n` turns, of which `k` are
-taken, and returns a number `m`, 0 or a refusal.
+of each loop and the way out behind it, and the way to the first. The function has a loop of `n` turns, of which `k` are
+taken, and maybe a second one, which goes up to `n` by steps of its own; it returns a number `m`, 0 or a refusal.
 """
 
 import re
@@ -202,10 +202,28 @@ class Slice:
 
 
 @dataclass
+class Plain:
+    """A parameter: a number, named `term`."""
+
+    kind: Number
+    term: str
+
+    @property
+    def fits(self):
+        return f"{self.term}-fits"
+
+
+@dataclass
 class Lent:
-    """An argument: a parameter that is changed, by its place, lent on for the time of the call."""
+    """An argument: a parameter that is changed, by its place, lent on for the time of the call, to be changed or, `shared`,
+    only read."""
 
     at: int
+    shared: bool = False
+
+    @property
+    def kind(self):
+        return "ShrSlice" if self.shared else "MutSlice"
 
 
 @dataclass
@@ -238,18 +256,28 @@ class Cited:
         """The type of what the arguments are at the end."""
         text = "Unit {0}"
         for arg in reversed(self.args):
-            text = f"{'List ℕ' if isinstance(arg, Lent) else 'Unit {0}'} × ({text})"
+            text = f"{'List ℕ' if isinstance(arg, Lent) and not arg.shared else 'Unit {0}'} × ({text})"
         return text
 
 
 class Walk:
-    def __init__(self, crate, function, title, slices, types, cited, uses):
+    def __init__(self, crate, function, title, params, types, cited, uses):
         self.crate, self.function, self.title = crate, function, title
-        self.slices, self.types, self.cited, self.uses = slices, types, {c.name: c for c in cited}, uses
+        self.params, self.types, self.cited, self.uses = params, types, {c.name: c for c in cited}, uses
+        slices = self.slices = [p for p in params if isinstance(p, Slice)]
+        self.places = [i for i, p in enumerate(params) if isinstance(p, Slice)]
         self.locals = [part for k in range(len(types) - 1, -1, -1) for part in (f"_{k}", f"d{k}")]
         self.shared = [j for j, s in enumerate(slices) if not s.out and not s.looked]
         self.looked = [j for j, s in enumerate(slices) if s.looked]
         self.lent = [j for j, s in enumerate(slices) if s.out]
+
+    def each(self, slice, number):
+        """Something of each parameter: of a slice by its place among the slices, of a number."""
+        return [slice(self.places.index(i), p) if isinstance(p, Slice) else number(p) for i, p in enumerate(self.params)]
+
+    def local(self, j):
+        """The local of a slice."""
+        return f"_{self.places[j] + 1}"
 
     # What the context holds at each turn: the rows that are changed, their borrows, the slices that are read, the locals.
     def at_turn(self):
@@ -281,7 +309,7 @@ class Walk:
                 c.split(f"own{j}", f"copy{j}"),
             )
         if lent:
-            self.lend(o, c, lent.at, at[0][0], at[0][1])
+            self.lend(o, c, lent, at[0][0], at[0][1])
             bound = f" ν δ{bound}"
         text = c.nothing("args")
         for kind, (term, fits) in reversed(list(zip(f.args, at))):
@@ -314,7 +342,7 @@ class Walk:
         )
         c.top(1, "result", "ensured")
         text = "split ! $ " + c.move("ensured")
-        if lent:
+        if lent and not lent.shared:
             says = f"Said-{fn}{bound[4:]} {given} (us .0)"
             last = f"‵ (lasts {fn}.ended {self.lifetimes(tokens)} {terms} us)"
             o(text, f"use1 W (some (λ (us : {f.lasts()}). {last} ⊛ raw (fact 𝓤 ({says})))) (id⊢ 𝓤 _) $ pick ! (λ us.")
@@ -323,7 +351,7 @@ class Walk:
             o(c.move("lasts"), c.fsplit("last", "rest"), c.fsplit("finally", "length"), c.move("length"), "feqL ! (λ same.")
             c.top(1)
         else:
-            says = f"Said-{fn}{bound} {given}"
+            says = f"Said-{fn}{bound[4:] if lent else bound} {given}"
             o(text, f"use1 W (raw (fact 𝓤 ({says}))) (told-{fn}{bound} {given}) $ heard ! ({says}) (λ {fact}.")
             c.top(1)
         o(
@@ -343,26 +371,38 @@ class Walk:
             text += c.move("tokens") + c.split(self.life(t), "tokens")
         o(text + c.move("tokens"), c.drop())
         if lent:
-            self.take_back(o, c, lent.at, at[0][0])
+            self.take_back(o, c, lent, at[0][0])
 
-    def lend(self, o, c, j, now, same):
+    def lend(self, o, c, lent, now, same):
         """A row that is changed is lent for a new lifetime `ν`, under a name `δ`; `same` says that it is as long as at entry."""
+        j = lent.at
         s, b = self.slices[j], f"b{sub(j)} o{sub(j)}"
         e, place = s.element.name, f"(b{sub(j)}, o{sub(j)})"
         o("lft-new ! tt (λ ν.")
         c.top(0, "new")
-        o(c.move(f"row{j}"), f"use1 W (‵ (cells (cell-of {e}) {now} {b})) (whole-in 𝓤 H A W {e} {now} {b}) $")
-        lent = lambda length: f"‵ (MutSlice (named 0) (ν ∷ []) {e} .own (lent{sub(j)} δ {now}) (sliceVal {place} {length} ∷ []))"
+        if lent.shared:
+            o(c.move(f"row{j}"), c.push("length", f"feqI ! ℕ (length {now}) (length {now}) refl"), c.fjoin("part"))
+            owed, law, share = f"arr-parts (shares {e}) (length {now}) .part fullShare {now} {b}", "lends-shr-slice", "fullShare "
+        else:
+            o(c.move(f"row{j}"), f"use1 W (‵ (cells (cell-of {e}) {now} {b})) (whole-in 𝓤 H A W {e} {now} {b}) $")
+            owed, law, share = f"Held {e} (length {now}) {b} δ", "lends-slice", ""
+        own = lambda length: f"‵ ({lent.kind} (named 0) (ν ∷ []) {e} .own (lent{sub(j)} δ {now}) (sliceVal {place} {length} ∷ []))"
         o(
-            f"use1 W (later (some (λ (δ : GName). {lent(f'(length {now})')} ⊛ ‵ (flent (ν ∷ []) (Held {e} (length {now}) {b} δ))))) "
-            f"(lends-slice 𝓤 H A W {e} (named 0) (ν ∷ []) {now} {b} (subst (Room {e}) (sym {same}) room{sub(j)})) $ await ! tt $ pick ! (λ δ."
+            f"use1 W (later (some (λ (δ : GName). {own(f'(length {now})')} ⊛ ‵ (flent (ν ∷ []) ({owed}))))) "
+            f"({law} 𝓤 H A W {e} (named 0) (ν ∷ []) {share}{now} {b} (subst (Room {e}) (sym {same}) room{sub(j)})) $ await ! tt $ pick ! (λ δ."
         )
         c.top(1, "both")
-        o(c.split(f"own{j}", "owed"), c.rewrite(f"own{j}", f"(λ (n : ℕ). {lent('n')})", same))
+        o(c.split(f"own{j}", "owed"), c.rewrite(f"own{j}", f"(λ (size′ : ℕ). {own('size′')})", same))
 
-    def take_back(self, o, c, j, now):
-        """The lifetime ends, and the row is there as the call left it, `us .0`."""
+    def take_back(self, o, c, lent, now):
+        """The lifetime ends, and the row is there as the call left it, `us .0`, or as it was."""
+        j = lent.at
         e, b = self.slices[j].element.name, f"b{sub(j)} o{sub(j)}"
+        if lent.shared:
+            o(c.move("new"), "lft-end ! tt $ ", c.move("new", "owed"), "lent-back ! tt $ ")
+            c.top(2, "part")
+            o(c.fsplit("length", f"row{j}"), c.drop())
+            return
         o(
             c.move("new"), "lft-end ! tt $ ", c.move("new", "owed", "finally"),
             f"use3 W (later (‵ (Arr (cell-of {e}) (length {now}) .lies (us .0) {b}))) (slice-back 𝓤 H A W {e} (ν ∷ []) δ (us .0) (length {now}) {b}) $ await ! tt $",
@@ -371,11 +411,15 @@ class Walk:
         o(c.fsplit("length", "cells"), c.drop(), f"use1 W (‵ (row {e} fullShare (us .0) {b})) (whole-out 𝓤 H A W {e} (us .0) {b}) $")
         c.top(1, f"row{j}")
 
+    def counted(self, local, width, of="p"):
+        """A local that holds a number, by that number."""
+        return f"(λ (p : ℕ). ‵ (fat fullShare (tyInt {width}) l{sub(local)} 0 (vint {width} {of})))"
+
     def reborrow(self, o, c, j, pointer, target):
         """A parameter as it is passed on: its pointer, and that with its length."""
-        through = f"(addr ! (from ! (fld ! refl (hop ! (look-in ! {c.at(f'_{j + 1}')} (sub ! 0 refl (whole !))) (stop !)))))"
+        through = f"(addr ! (from ! (fld ! refl (hop ! (look-in ! {c.at(self.local(j))} (sub ! 0 refl (whole !))) (stop !)))))"
         o(f"assigns ! {through} {c.init(f'_{pointer}', '(tt, tt)')} $")
-        both = f"(and-then ! {c.look(f'_{pointer}')} (and-then ! {c.field(f'_{j + 1}', 1)} (no-more !)))"
+        both = f"(and-then ! {c.look(f'_{pointer}')} (and-then ! {c.field(self.local(j), 1)} (no-more !)))"
         o(f"assigns ! (agg ! {both}) ", c.init(f"_{target}", f"(tt, (tt, (record {{ fits = room{sub(j)} .0 }}, tt)))"), " $")
 
     def life(self, token):
@@ -398,7 +442,7 @@ class Walk:
             o("assigns ! (bin ! ", c.look(f"_{index}"), f" (lit ! tt) (record {{ fits = {fits} }})) ", put(f"_{product}", f"(tt, record {{ fits = {fits} }})"), " $")
             offset = product
         o(
-            f"assigns ! (bin ! {c.field(f'_{j + 1}', 0)} {c.look(f'_{offset}')} tt) {c.init(f'_{pointer}', '(tt, tt)')} $ ",
+            f"assigns ! (bin ! {c.field(self.local(j), 0)} {c.look(f'_{offset}')} tt) {c.init(f'_{pointer}', '(tt, tt)')} $ ",
             c.rewrite(f"_{pointer}", f"(λ (p : ℕ). ‵ (fat fullShare tyPtr l{sub(pointer)} 0 (vptr b{sub(j)} p)))", law),
         )
 
@@ -423,6 +467,16 @@ class Walk:
         )
         self.put_back(o, c, 0, row, index, f"({name} .drive)", f"({DRIVE.vals} ({name} .drive))", DRIVE.made(f"({name} .drive)", "(parts .0)"), within)
 
+    def put(self, o, c, source, name, pointer, row, index, within):
+        """The drive that is the local `source`, named `name`, into its place."""
+        known = f"known-{name}"
+        o(f"let {known} : Is R {name} ({DRIVE.vals[1:-1]} {name}) = subst (Is R {name}) ({DRIVE.tells[1:-1]} {name} _ is-{name}) is-{name} in")
+        o(
+            f"assigns ! (of-opd ! {c.look(f'_{source}')}) (from ! (hop ! (look ! {c.at(f'_{pointer}')} refl) (stop !))) "
+            f"(store-raw ! {c.at('cell')} refl {DRIVE.typed(name, known)}) $"
+        )
+        self.put_back(o, c, 0, row, index, name, f"({DRIVE.vals} {name})", DRIVE.made(name, known), within)
+
     def answer(self, o, c, j, source, name, pointer, row, within):
         """The number of the local `source`, named `name`, into place k of the row of answers."""
         e = self.slices[j].element
@@ -442,7 +496,7 @@ class Walk:
     def length(self, o, c, j, target, again=False):
         """The length of a parameter, into a local."""
         put = c.store if again else c.init
-        o("assigns ! (of-opd ! ", c.field(f"_{j + 1}", 1), ") ", put(f"_{target}", f"(tt, record {{ fits = room{sub(j)} .0 }})"), " $")
+        o("assigns ! (of-opd ! ", c.field(self.local(j), 1), ") ", put(f"_{target}", f"(tt, record {{ fits = room{sub(j)} .0 }})"), " $")
 
     def take_out(self, o, c, j, row, index, default, within, known):
         s = self.slices[j]
@@ -477,12 +531,16 @@ class Walk:
             parts += [f"seen{j}", f"bor{j}", f"life{j}"] if s.out else [f"life{j}", f"own{j}"]
         return parts
 
-    def leave(self, o, c, names, behind, refusal, paths, used, ends):
-        """The way out behind the loop, on the context `names`: the rows are as `paths` say, the borrows are closed, the
-        refusal is returned, the locals are freed."""
+    def behind(self, o, c, names, behind, most="k .1"):
+        """The way out of a loop, on the context `names`, to the statements `behind` it."""
         c.names = names
-        o("(λ over. let all : k .0 ≡ n = le-antisymm (k .1) (nltb→le (k .0) n over) in")
+        o(f"(λ over. let all : k .0 ≡ n = le-antisymm ({most}) (nltb→le (k .0) n over) in")
         o(f"jumps ! $ exec ! (𝓣 .C) (𝓣 .Λ) En body.{behind} (atRet En Post) $")
+
+    def leave(self, o, c, names, behind, refusal, paths, used, ends, most="k .1", met=" (len′ w)"):
+        """The way out behind the last loop, on the context `names`: the rows are as `paths` say, the borrows are closed, the
+        refusal is returned, the locals are freed."""
+        self.behind(o, c, names, behind, most)
         o("assigns ! (of-opd ! ", c.look(f"_{refusal}"), ") ", c.init("_0", "(tt, record { fits = fits })"), " $")
         for j, path in paths.items():
             o(c.rewrite(f"row{j}", self.family(j), path))
@@ -500,11 +558,12 @@ class Walk:
             at = f"pureI ! (at-slice {s.element.name} (x{sub(j)} {s.list}) (s{sub(j)} ∷ [])) (tt, (tt, tt)) (refl, room{sub(j)})"
             o(c.move(f"seen{j}", f"bor{j}"), c.fjoin("held"), c.push("at", at), c.fjoin(f"own{j}"))
         o(f"returns ! (look ! {c.at('_0')} refl) $ ", c.forget(*used), c.free(len(self.types)))
-        o(c.keep(self.ends()), "by ! (exits m judged fits (len′ w))")
+        o(c.keep(self.ends()), f"by ! (exits m judged fits{met})")
         o.close()
 
-    def open(self, o, c, zeros, paths, known):
-        """The way to the loop, behind its calls: no turn is taken yet, the borrows are opened, the rows are as `paths` say."""
+    def open(self, o, c, zeros, paths, known, counts={}, begin="(0, zero-le)"):
+        """The way to the loop, behind its calls: no turn is taken yet, the borrows are opened, the rows are as `paths` say, and
+        so are the locals that `counts` has, of the type that it has."""
         for zero in zeros:
             o("assigns ! (of-opd ! (lit ! tt)) ", c.init(f"_{zero}", "(tt, record { fits = lit< tt })"), " $")
         for j in self.lent:
@@ -523,23 +582,28 @@ class Walk:
             c.top(2, f"row{j}", f"open{j}", f"bor{j}")
         o(c.keep(self.at_turn()))
         o("".join(c.rewrite(f"row{j}", self.family(j), path) for j, path in paths.items()))
-        o(f"looped {known} {locations(len(self.types))}")
+        for local, (width, path) in counts.items():
+            o(c.rewrite(f"_{local}", self.counted(local, width), path))
+        o(f"looped {known} {locations(len(self.types))} {begin}")
         o.close()
 
     def enter(self):
         """The start of the walk: the locals, the parameters, and what these own and the tokens apart."""
         o, c, count = Steps(8), Context(self.locals + ["tokens", "owns"]), len(self.types)
-        kinds = listed(s.kind(j, f"κ{sub(j)}") for j, s in enumerate(self.slices))
+        kinds = listed(self.each(lambda j, s: s.kind(j, f"κ{sub(j)}"), lambda p: p.kind.name))
         lives = " ⊛ ".join([*(f"‵ (flft κ{sub(j)} q{sub(j)})" for j in range(len(self.slices))), "‵ ftrue"])
-        values = listed(f"s{sub(j)}" for j in range(len(self.slices)))
+        values = listed(self.each(lambda j, s: f"s{sub(j)}", lambda p: p.kind.value(p.term)))
         o(f"qed W (({lives}) ∷ ‵ (owns ({kinds}) a vals) ∷ []) ∵ enter ! (𝓣 .C) (𝓣 .Λ) code.function ({values}) _ $")
         o("".join(f"alloc1 ! (λ l{sub(i)}. " for i in range(count)), "alloc0 ! $ params1 ! $")
-        for j in range(len(self.slices)):
-            o(f"pass1 ! (init ! {c.at(f'_{j + 1}')} refl (tt, (tt, (record {{ fits = room{sub(j)} .0 }}, tt)))) $")
+        fits = self.each(lambda j, s: f"(tt, (record {{ fits = room{sub(j)} .0 }}, tt))", lambda p: f"record {{ fits = {p.fits} }}")
+        for i, fit in enumerate(fits):
+            o(f"pass1 ! (init ! {c.at(f'_{i + 1}')} refl (tt, {fit})) $")
         o("pass0 ! $")
         text = ""
-        for j in range(len(self.slices)):
-            text += c.move("owns") + c.fsplit(f"own{j}", "owns")
+        for name in self.each(lambda j, s: f"own{j}", lambda p: "number"):
+            text += c.move("owns") + c.fsplit(name, "owns")
+            if name == "number":
+                text += c.drop()
         for j in range(len(self.slices)):
             text += c.move("tokens") + c.split(f"life{j}", "tokens")
         o(text, c.move("tokens", "owns"), c.drop(), c.drop())
@@ -554,8 +618,13 @@ class Walk:
         o(text, "frame ! $")
         c.top(1)
         text = c.nothing("params")
-        for j in range(len(self.slices) - 1, -1, -1):
-            s = self.slices[j]
+        for i in range(len(self.params) - 1, -1, -1):
+            s = self.params[i]
+            if isinstance(s, Plain):
+                o(text, c.push("number", s.kind.made(s.term, s.fits)), c.fjoin("params"))
+                text = ""
+                continue
+            j = self.places.index(i)
             if s.out:
                 text += c.move(f"seen{j}", f"bor{j}") + c.fjoin("held")
                 at = f"pureI ! (at-slice {s.element.name} (x{sub(j)} {s.out}) (s{sub(j)} ∷ [])) (tt, (tt, tt))"
@@ -589,7 +658,7 @@ class Walk:
                     kinds.append(f"ShrSlice (named {f.tokens.index(kind)}) κ{sub(kind)} {self.slices[kind].element.name}")
                 elif isinstance(kind, Lent):
                     values.append(f"s{sub(kind.at)} ∷ []")
-                    kinds.append(f"MutSlice (named 0) (ν ∷ []) {self.slices[kind.at].element.name}")
+                    kinds.append(f"{kind.kind} (named 0) (ν ∷ []) {self.slices[kind.at].element.name}")
                     terms[0] = f"lent{sub(kind.at)} δ {term}"
                 elif kind is DRIVE:
                     values.append(f"{DRIVE.vals[1:-1]} {term}")
@@ -612,37 +681,87 @@ class Walk:
   asked-{n} : {arrow(binds)}{asks}ent 𝓤 (onEntry 𝓤 H A {n}.signature {lives} {shares} {args} {vals}) ({f.name} 𝓤 H A mem run .pre {ghost})
   asked-{n}{names}{' asks' if f.asks else ''} = qed W (({self.lives(f.tokens)}) ∷ ‵ (owns ({listed(kinds)}) {args} {vals}) ∷ []) ∵ {how} $ frame ! $ done !
 """
-            if f.lent:
+            if f.lent and not f.lent.shared:
                 passed += f"""
   abbrev Said-{n} : {arrow(f.binds)}{f.of} → List ℕ → Type 0
   Said-{n}{words(f.binds)} r us = {f.fact}
 """
             else:
+                says = f"(Said-{n}{words(f.binds)} r)"
                 passed += f"""
   abbrev Said-{n} : {arrow(f.binds)}{f.of} → Type 0
-  Said-{n}{names} r = {f.fact}
+  Said-{n}{words(f.binds)} r = {f.fact}
 
-  told-{n} : {arrow(f.binds)}(r : {f.of}) → ent 𝓤 (ensured 𝓤 H A {n}.ended ({n}.clauses 𝓤 H A mem run) {lives} {args} tt r) (fact 𝓤 (Said-{n}{names} r))
-  told-{n}{names} r = exE 𝓤 _ (λ us. snd∗ 𝓤 (sem 𝓤 H A (lasts {n}.ended {lives} {args} us)) (fact 𝓤 (Said-{n}{names} r)))
+  told-{n} : {arrow(binds)}(r : {f.of}) → ent 𝓤 (ensured 𝓤 H A {n}.ended ({n}.clauses 𝓤 H A mem run) {lives} {args} tt r) (fact 𝓤 {says})
+  told-{n}{names} r = exE 𝓤 _ (λ us. snd∗ 𝓤 (sem 𝓤 H A (lasts {n}.ended {lives} {args} us)) (fact 𝓤 {says}))
 """
         return contracts, passed
 
-    def text(self, result, known, lens, after, values, laws, turn, start, loop):
-        """The file. `result` is the fact of the number returned, `known` what the loop knows, `lens` the laws of the rows'
-        lengths, `after` the definitions of the rows at exit, `values` those of the locals at a turn, `loop` the statements
-        of the MIR that the loop and what follows it begin with."""
+    def held(self, mark):
+        """What the context holds at a turn, before the locals."""
+        at_turn = [f"‵ (row {self.slices[j].element.name} fullShare (Row{sub(j)}{mark} k) b{sub(j)} o{sub(j)})" for j in self.lent]
+        for j in self.lent:
+            s, e = self.slices[j], self.slices[j].element.name
+            code = f"γ{sub(j)} (codedHoleys {e} .code (heres {e} {s.list}))"
+            at_turn += [f"‵ (fobor κ{sub(j)} q{sub(j)} (Held {e} (length {s.list}) b{sub(j)} o{sub(j)} γ{sub(j)}))", f"‵ (fobs {code})", f"‵ (fauth {code})"]
+        for j in self.looked:
+            s, e, place = self.slices[j], self.slices[j].element.name, f"b{sub(j)} o{sub(j)}"
+            shared = f"arr-parts (shares {e}) (length {s.list}) .part"
+            at_turn += [
+                f"‵ (row {e} part {s.list} {place})", f"‵ (fobor κ{sub(j)} q{sub(j)} ({shared} part {s.list} {place}))",
+                f"‵ (fshr-bor κ{sub(j)} (λ q. {shared} q {s.list} {place}))", f"‵ (fres γ{sub(j)} (codedHoleys {e} .code (heres {e} {s.list})))",
+            ]
+        for j in self.shared:
+            at_turn += [f"‵ (flft κ{sub(j)} q{sub(j)})", f"‵ Own{sub(j)}"]
+        return at_turn
+
+    def loop(self, mark, index, nearer, wf, values, inner, turn, number, loop):
+        """A loop: what stands at each turn, and the walk of one; `inner` is a loop that comes behind it. `mark` tells the names
+        of a second one from those of the first."""
+        return f"""\
+      abbrev At{mark} : {index} → List (Item 𝓤)
+      At{mark} k = {listed(self.held(mark))[:-5]} ∷ {self.locals_at(values)}
+
+      abbrev Turned{mark} : {index} → Out → SProp 𝓤
+      Turned{mark} k = afterTurn 𝓤 H (Below 𝓤 H A {nearer} At{mark} k) (afterBlock 𝓤 H (afterSeq 𝓤 H (Wp 𝓤 H (𝓣 .C) (𝓣 .Λ) En body.{loop[1]} (atReturn 𝓤 H En Post)) (atReturn 𝓤 H En Post)))
+
+      abbrev more{mark} : Body
+      more{mark} = after (after body.turn-{number})
+
+{inner + chr(10) if inner else ""}\
+      turns-walk{mark} : (k : {index}) → Sq W (At{mark} k) (runs (𝓣 .C) (𝓣 .Λ) En body.turn-{number} (anyQ (Turned{mark} k)))
+      unfolding afterTurn
+      turns-walk{mark} k =
+{turn}
+      looped{mark} : (k : {index}) → Sq W (At{mark} k) (runs (𝓣 .C) (𝓣 .Λ) En body.{loop[0]} (atRet En Post))
+      looped{mark} k = first ! $ blocks ! $ loops ! 𝓣 {nearer} {wf} At{mark} turns-walk{mark} k
+"""
+
+    def text(self, result, known, lens, after, values, laws, turn, start, loop, said=None, index=("Upto n", "(Nearer n)", "(Nearer-wf n)"), second=None):
+        """The file. `result` is the fact of the number returned, `known` what the loops know, `lens` the laws of the rows'
+        lengths, `after` the definitions of the rows at exit, `said` what the contract says of them, `values` those of the
+        locals at a turn, `loop` the statements of the MIR that the loop and what follows it begin with; `second` has laws,
+        values, turn and loop of a second one."""
         many = range(len(self.slices))
         contracts, passed = self.contracts()
         spread = lambda form: " ".join(form.format(sub(j)) for j in many)
         lists = " ".join(f"({s.list} : List {s.holds})" for s in self.slices)
         rooms = " ".join(f"(room{sub(j)} : Room {s.element.name} (length {s.list}))" for j, s in enumerate(self.slices))
-        stays, goes, tells = [], [], []
-        for j, s in enumerate(self.slices):
-            row = f"(plain (λ _. {s.element.name}))"
-            path = "(κs" + " .1" * j + " .0)"
-            stays.append(f"stay-slice ({j} ∷ []) tt {row}" if s.out else f"stay-none-slice ({j} ∷ []) tt {row} yes")
-            goes.append(f"goes-slice 𝓤 H A W {len(many)} {j} tt {row}" if s.out else f"goes-none-slice 𝓤 H A W {len(many)} ({j} ∷ []) tt {row} yes")
-            tells.append(f"{'mut' if s.out else 'shr'}-slice-tells (named {j}) {path} {s.element.name}")
+        rooms += "".join(f" ({p.term} : ℕ) ({p.fits} : {p.term} < 2 ^ {8 * p.kind.size})" for p in self.params if isinstance(p, Plain))
+        row = lambda s: f"(plain (λ _. {s.element.name}))"
+        stays = self.each(
+            lambda j, s: f"stay-slice ({j} ∷ []) tt {row(s)}" if s.out else f"stay-none-slice ({j} ∷ []) tt {row(s)} yes",
+            lambda p: f"stay-none (λ _. {p.kind.name}) yes",
+        )
+        goes = self.each(
+            lambda j, s: f"goes-slice 𝓤 H A W {len(many)} {j} tt {row(s)}" if s.out else f"goes-none-slice 𝓤 H A W {len(many)} ({j} ∷ []) tt {row(s)} yes",
+            lambda p: f"goes-none 𝓤 H A W {len(many)} (λ _. {p.kind.name}) yes (λ κs x f. refl)",
+        )
+        tells = self.each(
+            lambda j, s: f"{'mut' if s.out else 'shr'}-slice-tells (named {j}) (κs{' .1' * j} .0) {s.element.name}",
+            lambda p: p.kind.tells[1:-1],
+        )
+        spells = self.each(lambda j, s: "slice-vals", lambda p: p.kind.vals[1:-1])
         refs = "".join(
             f"""
   abbrev x{sub(j)} : List {s.holds} → RefT (List {s.holds})
@@ -662,21 +781,19 @@ class Walk:
         )
         refs += "".join(
             f"""
-  abbrev lent{sub(f.lent.at)} : GName → List ℕ → RefT (List ℕ)
-  lent{sub(f.lent.at)} δ l = record {{ ptr = (b{sub(f.lent.at)}, o{sub(f.lent.at)}); name = δ; now = l }}
+  abbrev lent{sub(j)} : GName → List ℕ → RefT (List ℕ)
+  lent{sub(j)} δ l = record {{ ptr = (b{sub(j)}, o{sub(j)}); name = δ; now = l }}
 """
-            for f in self.cited.values()
-            if f.lent
+            for j in sorted({f.lent.at for f in self.cited.values() if f.lent})
         )
-        tuple_types = "Unit {0}"
-        for s in reversed(self.slices):
-            tuple_types = f"RefT (List {s.holds}) × ({tuple_types})"
-        val_types = "Unit {0}"
-        for _ in self.slices:
+        tuple_types, val_types = "Unit {0}", "Unit {0}"
+        for kind in reversed(self.each(lambda j, s: f"RefT (List {s.holds})", lambda p: "ℕ")):
+            tuple_types = f"{kind} × ({tuple_types})"
             val_types = f"List Val × ({val_types})"
         ghost = f"(({nested(f'κ{sub(j)}' for j in many)}, {nested(f'q{sub(j)}' for j in many)}, tt, a, vals), tt)"
-        at_exit = nested(s.out if s.out else "tt" for s in self.slices)
-        len_exit = nested(f"len{sub(j)}" if s.out else "tt" for j, s in enumerate(self.slices))
+        at_exit = nested(self.each(lambda j, s: s.out if s.out else "tt", lambda p: "tt"))
+        len_exit = nested(self.each(lambda j, s: f"len{sub(j)}" if s.out else "tt", lambda p: "tt"))
+        said = said or f"(judged{', refl' * len(self.lent + self.looked)})"
         held = []
         for j, s in enumerate(self.slices):
             if s.out:
@@ -684,20 +801,6 @@ class Walk:
                 held += [f"‵ (fobs γ{sub(j)} (codedHoleys {e} .code (heres {e} {s.out})))", f"‵ (fbor κ{sub(j)} (Held {e} (length {s.out}) b{sub(j)} o{sub(j)} γ{sub(j)}))", f"‵ (flft κ{sub(j)} q{sub(j)})"]
             else:
                 held += [f"‵ (flft κ{sub(j)} q{sub(j)})", f"‵ Own{sub(j)}"]
-        at_turn = [f"‵ (row {self.slices[j].element.name} fullShare (Row{sub(j)} k) b{sub(j)} o{sub(j)})" for j in self.lent]
-        for j in self.lent:
-            s, e = self.slices[j], self.slices[j].element.name
-            code = f"γ{sub(j)} (codedHoleys {e} .code (heres {e} {s.list}))"
-            at_turn += [f"‵ (fobor κ{sub(j)} q{sub(j)} (Held {e} (length {s.list}) b{sub(j)} o{sub(j)} γ{sub(j)}))", f"‵ (fobs {code})", f"‵ (fauth {code})"]
-        for j in self.looked:
-            s, e, place = self.slices[j], self.slices[j].element.name, f"b{sub(j)} o{sub(j)}"
-            shared = f"arr-parts (shares {e}) (length {s.list}) .part"
-            at_turn += [
-                f"‵ (row {e} part {s.list} {place})", f"‵ (fobor κ{sub(j)} q{sub(j)} ({shared} part {s.list} {place}))",
-                f"‵ (fshr-bor κ{sub(j)} (λ q. {shared} q {s.list} {place}))", f"‵ (fres γ{sub(j)} (codedHoleys {e} .code (heres {e} {s.list})))",
-            ]
-        for j in self.shared:
-            at_turn += [f"‵ (flft κ{sub(j)} q{sub(j)})", f"‵ Own{sub(j)}"]
         types = "".join(
             f"""
       abbrev Ty{sub(j)} : Ty
@@ -714,11 +817,13 @@ class Walk:
             for f in self.cited.values()
         )
         one = lambda form: " ".join(form.format(" .1" * j) for j in many)
-        walk_args = f"{one('(κs{} .0)')} {one('(qs{} .0)')} {' '.join('(a%s .0 .ptr .0) (a%s .0 .ptr .1)' % ((' .1' * j,) * 2) for j in many)} {one('(a{} .0 .name)')} {one('(a{} .0 .now)')} {one('(are{} .0 .0 .1)')}"
+        each = lambda form: " ".join(form.format(" .1" * i) for i in self.places)
+        numbers = "".join(" (a{0} .0) (are{0} .0 .1)".format(" .1" * i) for i, p in enumerate(self.params) if isinstance(p, Plain))
+        walk_args = f"{one('(κs{} .0)')} {one('(qs{} .0)')} {each('(a{0} .0 .ptr .0) (a{0} .0 .ptr .1)')} {each('(a{} .0 .name)')} {each('(a{} .0 .now)')} {each('(are{} .0 .0 .1)')}{numbers}"
         logic = "{M : Type 1} (𝓤 : URA M) (H : Heap 𝓤) (A : Atoms 𝓤)"
         machine = "(mem : Memory → SProp 𝓤) (run : Routine → Fun 𝓤)"
         entry = f"onEntry 𝓤 H A f.signature {nested(f'κ{sub(j)}' for j in many)} {nested(f'q{sub(j)}' for j in many)} a vals"
-        values_in = listed(f"s{sub(j)}" for j in many)
+        values_in = listed(self.each(lambda j, s: f"s{sub(j)}", lambda p: p.kind.value(p.term)))
         pointers = " ".join(f"b{sub(j)} o{sub(j)}" for j in many)
         body = f"""
 abbrev R : RattleType
@@ -726,7 +831,7 @@ R = T.the-row
 
 -- how many bytes a drive takes
 abbrev size : ℕ
-size = 44
+size = 46
 
 abbrev stayed : Stays (f.ended .signature .params) (f.ended .kept)
 stayed = {nested(stays)}
@@ -740,10 +845,10 @@ module _ {logic} {machine} where
   Arg = {tuple_types}
 
   abbrev a : Arg
-  a = {nested(f'x{sub(j)} {s.list}' for j, s in enumerate(self.slices))}
+  a = {nested(self.each(lambda j, s: f'x{sub(j)} {s.list}', lambda p: p.term))}
 
   abbrev vals : {val_types}
-  vals = {nested(f's{sub(j)} ∷ []' for j in many)}
+  vals = {nested(self.each(lambda j, s: f's{sub(j)} ∷ []', lambda p: f'{p.kind.value(p.term)} ∷ []'))}
 
   abbrev Post : Val → SProp 𝓤
   Post = walkOf 𝓤 H A f.ended stayed (f.clauses 𝓤 H A mem run) .post {ghost}
@@ -757,37 +862,22 @@ module _ {logic} {machine} where
   exits : (m : ℕ) → {result} → m < 2 ^ 8 → {lens[0]}ent 𝓤 (⋆ 𝓤 H A Ends) (Post (vint w8 m))
   exits m judged fits {lens[1]}=
       qed W Ends ∵
-      suffices ! _ (ends-at 𝓤 H A f.ended stayed (f.clauses 𝓤 H A mem run) W {ghost} (vint w8 m) m {at_exit} {len_exit}) $ says ! (judged{', refl' * len(self.lent + self.looked)}) $
+      suffices ! _ (ends-at 𝓤 H A f.ended stayed (f.clauses 𝓤 H A mem run) W {ghost} (vint w8 m) m {at_exit} {len_exit}) $ says ! {said} $
 {self.exits()}
-{VARIANT}  module _ (𝓣 : Tables 𝓤 H) {knows} where
+{KNOWN if second else VARIANT}  module _ (𝓣 : Tables 𝓤 H) {knows} where
     module _ {known} ({locations(len(self.types))} : ℕ) where
 {types.lstrip(chr(10))}
       abbrev En : Env 𝓤 H
       En = {listed(f'({ty}, l{sub(i)})' for i, ty in enumerate(self.types))}
 
 {laws}
-      abbrev At : Upto n → List (Item 𝓤)
-      At k = {listed(at_turn)[:-5]} ∷ {self.locals_at(values)}
-
-      abbrev Turned : Upto n → Out → SProp 𝓤
-      Turned k = afterTurn 𝓤 H (Below 𝓤 H A (Nearer n) At k) (afterBlock 𝓤 H (afterSeq 𝓤 H (Wp 𝓤 H (𝓣 .C) (𝓣 .Λ) En body.{loop[1]} (atReturn 𝓤 H En Post)) (atReturn 𝓤 H En Post)))
-
-      abbrev more : Body
-      more = after (after body.turn-1)
-
-      turns-walk : (k : Upto n) → Sq W (At k) (runs (𝓣 .C) (𝓣 .Λ) En body.turn-1 (anyQ (Turned k)))
-      unfolding afterTurn
-      turns-walk k =
-{turn}
-      looped : Sq W (At (0, zero-le)) (runs (𝓣 .C) (𝓣 .Λ) En body.{loop[0]} (atRet En Post))
-      looped = first ! $ blocks ! $ loops ! 𝓣 (Nearer n) (Nearer-wf n) At turns-walk (0, zero-le)
-
+{self.loop("", *index, values, second and self.loop("′", **second, inner="", number=2), turn, 1, loop)}
     walk : ent 𝓤 ({entry}) (WpFn 𝓤 H (𝓣 .C) (𝓣 .Λ) code.function ({values_in}) Post)
     walk =
 {start}
 module _ {logic} (W : Given 𝓤 H A) {machine} where
   walks : (𝓣 : Tables 𝓤 H) → {triples} → Walks 𝓤 H A f.ended stayed (WpFn 𝓤 H (𝓣 .C) (𝓣 .Λ) code.function) (f.clauses 𝓤 H A mem run)
-  walks 𝓣 {names} = walked 𝓤 H A f.ended stayed (f.clauses 𝓤 H A mem run) (WpFn 𝓤 H (𝓣 .C) (𝓣 .Λ) code.function) (λ κs. {nested('slice-vals' for _ in many)}) (λ κs. {nested(tells)})
+  walks 𝓣 {names} = walked 𝓤 H A f.ended stayed (f.clauses 𝓤 H A mem run) (WpFn 𝓤 H (𝓣 .C) (𝓣 .Λ) code.function) (λ κs. {nested(spells)}) (λ κs. {nested(tells)})
       (λ κs qs bounds a g are. via 𝓤 _ (fst∗ 𝓤 _ (emp 𝓤))
       (walk 𝓤 H A W mem run {walk_args} 𝓣 {names}))
 
@@ -837,7 +927,8 @@ def trimmed(uses, body):
 
 USES = """\
 use mathlib.Core.Path.{_≡_, refl, sym, _∙_, ap, subst}
-use Prim.Native.Nat.{ℕ, _+_, _-_, _<_, _≤_, _*_, _^_, zero-le}
+use mathlib.Core.Bool.{Bool, true, false}
+use Prim.Native.Nat.{ℕ, _+_, _-_, _<_, _≤_, _*_, _^_, max, zero-le}
 use native.Mathlib.Nat.{le-antisymm}
 use native.Mathlib.Numerals.{add-one-le, add-one-dec}
 use native.Mathlib.Omega.{arith}
@@ -858,10 +949,10 @@ use prog.Wp.{Heap, Out, Env, afterSeq, afterBlock, afterTurn, Wp, atReturn, WpFn
 use ghost.Atoms.{Atoms, sem}
 use contract.Monad.{Fun, fact}
 use contract.Running.{givenOf, tables, tablesOf}
-use types.Kit.{Given, Item, ‵, raw, some, later, runs, anyQ, atRet, Sq, _⊛_, ⋆, _$_, _∵_, !, qed, by, move, keep, drop, use0, use1, use2, use3, split, join, pick, rewrite, fsplit, fjoin, feqL, suffices, frame, await, done}
+use types.Kit.{Given, Item, ‵, raw, some, later, runs, anyQ, atRet, Sq, _⊛_, ⋆, _$_, _∵_, !, qed, by, move, keep, drop, use0, use1, use2, use3, split, join, pick, rewrite, fsplit, fjoin, feqL, feqI, suffices, frame, await, done}
 use types.Run.{look, look-raw, init, store, store-raw, forget, stop, hop, fld, from, load, lit, of-opd, bin, addr, and-then, no-more, assigns, assigns-last, land, first, skips, jumps, blocks, branches, returns, enter, alloc1, alloc0, params1, pass1, pass0, free1, free0, exec, Below, again, loops}
 use types.Part.{agg, whole, sub, look-in}
-use types.Tokens.{lft-new, lft-end}
+use types.Tokens.{lft-new, lft-end, lent-back}
 use types.SemTy.{cells, Arr}
 use types.Share.{arr-parts}
 use sound.WpLaws.{fmOf, WpFn-mono}
@@ -873,7 +964,7 @@ use denote.Plain.{uint-makes, uint-vals, uint-tells, uint-lawful}
 use denote.Builtin.{u8, u32, usize}
 use denote.Ref.{RefT}
 use denote.Slice.{sliceTy, sliceVal, MutSlice, ShrSlice, Room, heres, codedHoleys, at-slice, slice-vals, mut-slice-tells, shr-slice-tells, shr-slice-copy}
-use denote.Lend.{Held, lends-slice, slice-back}
+use denote.Lend.{Held, lends-slice, lends-shr-slice, slice-back}
 use denote.Index.{row, place-is, place-byte, elem-out, elem-back, elem-put, opens-slice, closes-slice, looks-slice, shuts-slice, whole-in, whole-out}
 use denote.Steps.{only, owned, peeks, heard, nothing}
 use denote.Struct.Laws as LL
@@ -883,7 +974,7 @@ use denote.Triple.Statement.{Contract, Triple}
 use denote.Triple.Call.{calls-at}
 use denote.Triple.Clauses.{ensured, lasts}
 use denote.Triple.Table.{entered, cited}
-use denote.Triple.Walked.{says, Stays, stay-slice, stay-none-slice, walkOf, goes-slice, goes-none-slice, Walks, ends-at, walked, walk-meets}
+use denote.Triple.Walked.{says, Stays, stay-none, stay-slice, stay-none-slice, walkOf, goes-none, goes-slice, goes-none-slice, Walks, ends-at, walked, walk-meets}
 use denote.Exit.{yes}
 use denote.Signature.{plain}
 use Rattle.numbers.specs.Numbers.{pick as pick′}
@@ -896,8 +987,9 @@ use Rattle.damper.proofs.Drive as T
 use Rattle.damper.proofs.Drive.Laws as T′
 use Rattle.shift.specs.Shift.{driveLine, pageRefusal, pageAfter}
 use Rattle.shift.specs.Laws.{line-length, Lines, lines-fit, pageBy, page-start, page-by-length, page-turn, page-end, page-length}
-use Rattle.hall.specs.Hall.{Call, give, tick, callRefusal, Turn, tickBytes, turnsOf, at, rowAfter, tickNumber, answersAfter}
-use Rattle.hall.specs.Laws.{Turns, give-turns, tick-turns, turns-most, row-length, rowBy, answersBy, row-start, answers-start, row-by-length, answers-by-length, row-turn, answers-turn, row-end, answers-end, answers-end-length}
+use Rattle.hall.specs.Hall.{Call, give, tick, tickRefusal, callRefusal, Turn, turnsOf, at, rowAfter, tickNumber, answersAfter}
+use Rattle.hall.specs.Quota.{dueNow, hallTicked, hallStep, allowedCall}
+use Rattle.hall.specs.Laws.{Turns, give-turns, turns-most, row-length, rowBy, answersBy, row-start, answers-start, row-by-length, answers-by-length, row-turn, answers-turn, row-end, answers-end, answers-end-length}
 """
 
 AFTER = """\
@@ -927,5 +1019,19 @@ VARIANT = """\
 
     Nearer-wf : WellFounded Nearer
     Nearer-wf = InvImage·wf (λ (k : Upto). n - k .0) (Nat·lt-wfRel .wf)
+
+"""
+
+KNOWN = """\
+  -- the same, with something known of each
+  module _ (n : ℕ) (P : ℕ → Type 0) where
+    abbrev Where : Type 0
+    Where = (k : ℕ) × ((k ≤ n) × P k)
+
+    abbrev Closer : Where → Where → Type 0
+    Closer j k = n - j .0 < n - k .0
+
+    Closer-wf : WellFounded Closer
+    Closer-wf = InvImage·wf (λ (k : Where). n - k .0) (Nat·lt-wfRel .wf)
 
 """

@@ -6,12 +6,16 @@ use Rattle.answer.specs.declared.Answer.{Answer}
 use Rattle.damper.specs.declared.Drive.{Drive}
 use Rattle.damper.specs.declared.Outcome.{Outcome}
 
--- a step of a drive, right or wrong: what an event record does to it, and the answer
+-- what a drive does, right or wrong, with what it is given: the drive after it, and the answer
+abbrev pub StepOn : Type 0 → Type 0
+StepOn A = Drive → A → Outcome
+
+-- given an event record
 abbrev pub Step : Type 0
-Step = Drive → List ℕ → Outcome
+Step = StepOn (List ℕ)
 
 -- "each later one to the drive that the one before left, refused or not": what a list of records gives, in its order
-unfoldable pub outcomes : Step → Drive → List (List ℕ) → List Outcome
+unfoldable pub outcomes : {A : Type 0} → StepOn A → Drive → List A → List Outcome
 outcomes step d [] = []
 outcomes step d (s ∷ ss) = let o = step d s in o ∷ outcomes step (o .drive) ss
 

@@ -12,16 +12,16 @@ use Rattle.event.specs.Records.{recordsOf}
 use Rattle.event.specs.RecordLaws.{left-none, left-more}
 use Rattle.damper.specs.declared.Drive.{Drive}
 use Rattle.damper.specs.declared.Outcome.{Outcome}
-use Rattle.damper.specs.Carry.{Step, outcomes, driveAfter, answersIn}
+use Rattle.damper.specs.Carry.{Step, StepOn, outcomes, driveAfter, answersIn}
 
 -- each record has one outcome
-pub outcomes-length : (step : Step) (d : Drive) (l : List (List ℕ)) → length (outcomes step d l) ≡ length l
+pub outcomes-length : {A : Type 0} (step : StepOn A) (d : Drive) (l : List A) → length (outcomes step d l) ≡ length l
 unfolding outcomes
 outcomes-length step d [] = refl
 outcomes-length step d (s ∷ l) = rw (outcomes-length step (step d s .drive) l)
 
 -- a list in two parts: the second goes to the drive that the first left
-pub outcomes-append : (step : Step) (d : Drive) (l m : List (List ℕ))
+pub outcomes-append : {A : Type 0} (step : StepOn A) (d : Drive) (l m : List A)
     → outcomes step d (l ++ m) ≡ outcomes step d l ++ outcomes step (driveAfter d (outcomes step d l)) m
 unfolding outcomes driveAfter
 outcomes-append step d [] m = refl

@@ -23,33 +23,34 @@ noRun = run 0 0
 abbrev pub last : ℕ → ℕ → ℕ → Last
 last v p s = record { reported = v; position = p; status = s }
 
--- position, parameters, commands, age of the setpoint, run, ticks since the last report (document 01: since), last report
-abbrev pub drive : ℕ → List ℕ → Commands → ℕ → Run → ℕ → Last → Drive
-drive p q c a r s l = record { position = p; params = q; commands = c; age = a; run = r; since = s; last = l }
+-- position, parameters, commands, age of the setpoint, run, ticks since the last report (document 01: since), last report; and of
+-- document 02, W-204: "how many hall ticks in a row it was due and not sent"
+abbrev pub drive : ℕ → List ℕ → Commands → ℕ → Run → ℕ → Last → ℕ → Drive
+drive p q c a r s l w = record { position = p; params = q; commands = c; age = a; run = r; since = s; last = l; wait = w }
 
--- "a fresh one has position 0, defaults below, since 0, nothing else set"
+-- "a fresh one has position 0, defaults below, since 0, nothing else set"; W-204: "fresh .. it is 0"
 abbrev pub freshDrive : Drive
-freshDrive = drive 0 freshValues noCommands 0 noRun 0 (last 0 0 0)
+freshDrive = drive 0 freshValues noCommands 0 noRun 0 (last 0 0 0) 0
 
 -- the age of the setpoint and since
 abbrev pub withCounts : Drive → ℕ → ℕ → Drive
-withCounts d a s = drive (d .position) (d .params) (d .commands) a (d .run) s (d .last)
+withCounts d a s = drive (d .position) (d .params) (d .commands) a (d .run) s (d .last) (d .wait)
 
 -- the position
 abbrev pub withPosition : Drive → ℕ → Drive
-withPosition d p = drive p (d .params) (d .commands) (d .age) (d .run) (d .since) (d .last)
+withPosition d p = drive p (d .params) (d .commands) (d .age) (d .run) (d .since) (d .last) (d .wait)
 
 -- a report of the present position and of status `s`: it "goes out, and since becomes 0"
 abbrev pub withReport : Drive → ℕ → Drive
-withReport d s = drive (d .position) (d .params) (d .commands) (d .age) (d .run) 0 (last 1 (d .position) s)
+withReport d s = drive (d .position) (d .params) (d .commands) (d .age) (d .run) 0 (last 1 (d .position) s) (d .wait)
 
 -- the parameter at one place of the row
 abbrev pub withParam : Drive → ℕ → ℕ → Drive
-withParam d i v = drive (d .position) (set (d .params) i v) (d .commands) (d .age) (d .run) (d .since) (d .last)
+withParam d i v = drive (d .position) (set (d .params) i v) (d .commands) (d .age) (d .run) (d .since) (d .last) (d .wait)
 
 -- commands, the age of the setpoint and the run
 abbrev pub withCommands : Drive → Commands → ℕ → Run → Drive
-withCommands d c a r = drive (d .position) (d .params) c a r (d .since) (d .last)
+withCommands d c a r = drive (d .position) (d .params) c a r (d .since) (d .last) (d .wait)
 
 -- the run
 abbrev pub withRun : Drive → Run → Drive
@@ -73,6 +74,10 @@ withInterlocks d f g =
     let c = interlocked (d .commands) f g in
     withCommands d c (d .age) (pick (forbidsRun c) noRun (d .run))
 
--- "Restart keeps position and parameters, clears all else and sets since to 0"
+-- the wait
+abbrev pub withWait : Drive → ℕ → Drive
+withWait d w = drive (d .position) (d .params) (d .commands) (d .age) (d .run) (d .since) (d .last) w
+
+-- "Restart keeps position and parameters, clears all else and sets since to 0"; W-204: "Restart clears the wait"
 abbrev pub cleared : Drive → Drive
-cleared d = drive (d .position) (d .params) noCommands 0 noRun 0 (last 0 0 0)
+cleared d = drive (d .position) (d .params) noCommands 0 noRun 0 (last 0 0 0) 0

@@ -5,7 +5,7 @@ ghost use lib.ListN.{length};
 ghost use Rattle.numbers.specs.Numbers.{pick};
 ghost use Rattle.table.specs.Table.{rows};
 ghost use Rattle.motion.specs.Motion.{runTicks};
-ghost use Rattle.damper.specs.Record.{freshDrive, withCounts, withPosition, withRun, withReport, withParam, withSetpoint, withTool, withHand, cleared};
+ghost use Rattle.damper.specs.Record.{freshDrive, withCounts, withPosition, withRun, withReport, withParam, withSetpoint, withTool, withHand, withWait, cleared};
 ghost use Rattle.damper.specs.WellFormed.{runFits, lastFits, wellFormed};
 use answer::Answer;
 use rules::Commands;
@@ -56,6 +56,8 @@ pub struct Drive {
     // Ticks since the last report or restart, which stop at 65,535.
     pub since: u16,
     pub last: Last,
+    // Hall ticks in a row at which a report was due and not sent, which stop at 65,535. A single tick does not look at it.
+    pub wait: u16,
 }
 
 // A drive after steps 1 to 3 of a tick, the ruling rank during the move, and the motor: 0 still, 1 rising, 2 falling, or 1 and 2
@@ -125,6 +127,7 @@ impl Drive {
             run: NO_RUN,
             since: 0,
             last: NO_REPORT,
+            wait: 0,
         }
     }
 
@@ -216,6 +219,13 @@ impl Drive {
     {
         self.commands.hand = on;
         self.commands.handpos = position;
+        self
+    }
+
+    pub fn with_wait(mut self, wait: u16) -> Drive
+        ensures { λ r. ⌜ r ≡ withWait self wait ⌝ }
+    {
+        self.wait = wait;
         self
     }
 

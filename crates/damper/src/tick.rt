@@ -58,7 +58,7 @@ impl Drive {
     }
 
     // Steps 1 to 3.
-    pub(crate) fn advance(self) -> Advanced
+    pub fn advance(self) -> Advanced
         requires { ⌜ Ranges (self .params) ⌝ }
         requires { ⌜ Flags (self .commands) ⌝ }
         ensures { λ r. ⌜ r ≡ advance self ⌝ }
@@ -86,7 +86,7 @@ impl Drive {
     }
 
     // Whether a report is due after steps 1 to 3, which left this status.
-    pub(crate) fn due(self, status: u8) -> bool
+    pub fn due(self, status: u8) -> bool
         ensures { λ r. ⌜ r ≡ dueWith self status ⌝ }
     {
         let params = self.params;

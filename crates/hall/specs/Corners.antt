@@ -1,5 +1,6 @@
 -- When a call is refused itself, corner by corner, by computation.
 use mathlib.Core.Path.{_≡_, refl}
+use mathlib.Core.Bool.{false}
 use mathlib.Core.List.{List, [], _∷_, _++_, map}
 use Prim.Native.Nat.{ℕ}
 use lib.ListN.{replicate}
@@ -19,6 +20,10 @@ pub record Corner : Type 0 where
 abbrev corner : ℕ → Call → ℕ → Corner
 corner n c r = record { drives = n; call = c; number = r }
 
+-- a hall tick with a quota, whoever is sent
+abbrev ticks : ℕ → ℕ → Call
+ticks quota room = tick quota (λ i. false) room
+
 abbrev setpoint : List ℕ
 setpoint = bytesOf (event 2 128 0 0)
 
@@ -29,15 +34,15 @@ damaged = bytesOf (event 1 0 0 1)
 abbrev pub table : List Corner
 table =
     -- rows of none, of 1, of 64 and of 65
-    corner 0 (tick 0) 14
-    ∷ corner 1 (tick 1) 0
-    ∷ corner 64 (tick 64) 0
-    ∷ corner 65 (tick 65) 14
+    corner 0 (ticks 8 0) 14
+    ∷ corner 1 (ticks 8 1) 0
+    ∷ corner 64 (ticks 8 64) 0
+    ∷ corner 65 (ticks 8 65) 14
     ∷ corner 0 (give [] setpoint 0) 14
     ∷ corner 65 (give [] setpoint 0) 14
     -- 14 before 15 and before 16
     ∷ corner 0 (give (0 ∷ []) tickBytes 0) 14
-    ∷ corner 65 (tick 0) 14
+    ∷ corner 65 (ticks 8 0) 14
     -- a number that is the row's length, and one whose lowest byte is a drive's number
     ∷ corner 8 (give (7 ∷ []) setpoint 1) 0
     ∷ corner 8 (give (8 ∷ []) setpoint 1) 15
@@ -61,9 +66,17 @@ table =
     ∷ corner 2 (give (1 ∷ 0 ∷ []) setpoint 1) 16
     ∷ corner 2 (give (1 ∷ 0 ∷ []) setpoint 2) 0
     ∷ corner 2 (give (1 ∷ 0 ∷ []) setpoint 3) 0
-    ∷ corner 2 (tick 1) 16
-    ∷ corner 2 (tick 2) 0
-    ∷ corner 2 (tick 3) 0
+    ∷ corner 2 (ticks 8 1) 16
+    ∷ corner 2 (ticks 8 2) 0
+    ∷ corner 2 (ticks 8 3) 0
+    -- quotas of none, of 1, of 64 and of 65, and one whose lowest byte is 1; 14 and 16 before 18
+    ∷ corner 2 (ticks 0 2) 18
+    ∷ corner 2 (ticks 1 2) 0
+    ∷ corner 2 (ticks 64 2) 0
+    ∷ corner 2 (ticks 65 2) 18
+    ∷ corner 2 (ticks 257 2) 18
+    ∷ corner 65 (ticks 0 65) 14
+    ∷ corner 2 (ticks 0 1) 16
     ∷ []
 
 pub corners : map (λ (c : Corner). callRefusal (c .drives) (c .call)) table ≡ map (λ (c : Corner). c .number) table

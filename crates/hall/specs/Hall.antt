@@ -1,10 +1,12 @@
--- Document 02, W-201: 1 to 64 drive records in one row, the calls on them, and each drive's share of these.
+-- Document 02, W-201: 1 to 64 drive records in one row, the calls on them, and each drive's share of these. What a hall tick does to a
+-- drive, and who is sent, is W-204, in Quota.antt.
 use mathlib.Core.Bool.{Bool, false, _||_}
 use mathlib.Core.List.{List, [], _∷_, _++_, map}
-use Prim.Native.Nat.{ℕ, zero, suc, _+_, _*_}
+use Prim.Native.Nat.{ℕ, _+_, _*_}
 use lib.Dec.{ltb, leb, eqb}
 use lib.ListN.{length, getD, set}
 use Rattle.numbers.specs.Numbers.{pick}
+use Rattle.numbers.specs.Places.{tabulate}
 use Rattle.answer.specs.declared.Answer.{Answer}
 use Rattle.answer.specs.Answer.{numberOf, valuesOf, isReport}
 use Rattle.event.specs.declared.Decoded.{Decoded}
@@ -14,14 +16,14 @@ use Rattle.event.specs.Event.{event, bytesOf, readOf}
 use Rattle.damper.specs.declared.Drive.{Drive}
 use Rattle.damper.specs.declared.Outcome.{Outcome}
 use Rattle.damper.specs.Record.{freshDrive}
-use Rattle.damper.specs.Carry.{Step, answersIn}
+use Rattle.damper.specs.Carry.{StepOn, answersIn}
 
 -- A hall call, and last the length of the row that is lent for its answers.
 pub data Call : Type 0 where
   -- "One call gives the bytes of an event other than a tick to a list of drives": the list, the bytes
   give : List ℕ → List ℕ → ℕ → Call
-  -- "One call ticks them all"
-  tick : ℕ → Call
+  -- "One call ticks them all"; W-204: "The hall tick gets a quota": the quota, and at which places it sends a report, which is free in part
+  tick : ℕ → (ℕ → Bool) → ℕ → Call
 
 -- 14: "when the row holds no drive or over 64"
 abbrev pub badRow : ℕ → Bool
@@ -43,32 +45,44 @@ isTick s = readAsTick (readOf s)
 abbrev pub badEvent : List ℕ → List ℕ → ℕ → Bool
 badEvent list s room = (isTick s || ltb 64 (length list)) || ltb room (length list)
 
--- "14 to 16 come before 1 to 13, in this order": the first that fits a call on `n` drives, 0 if none does; "(for the hall tick, than
--- the row of drives)"
+-- W-204, 18: "when the quota is outside 1 to 64"
+abbrev pub badQuota : ℕ → Bool
+badQuota quota = ltb quota 1 || ltb 64 quota
+
+-- of the hall tick: "(for the hall tick, than the row of drives)"; 18 "after 16"
+abbrev pub tickRefusal : ℕ → ℕ → ℕ → ℕ
+tickRefusal n quota room = pick (badRow n) 14 (pick (ltb room n) 16 (pick (badQuota quota) 18 0))
+
+-- "14 to 16 come before 1 to 13, in this order": the first that fits a call on `n` drives, 0 if none does
 unfoldable pub callRefusal : ℕ → Call → ℕ
 callRefusal n (give list s room) = pick (badRow n) 14 (pick (badNumber n list) 15 (pick (badEvent list s room) 16 0))
-callRefusal n (tick room) = pick (badRow n) 14 (pick (ltb room n) 16 0)
+callRefusal n (tick quota sends room) = tickRefusal n quota room
 
--- one event record given to the drive at one place of the row
+-- what a drive is given: an event record, or a hall tick, which sends its report or not
+pub data Given : Type 0 where
+  bytes : List ℕ → Given
+  hallTick : Bool → Given
+
+-- given to the drive at one place of the row
 pub record Turn : Type 0 where
   pub place : ℕ
-  pub bytes : List ℕ
+  pub given : Given
 
-abbrev pub turn : List ℕ → ℕ → Turn
-turn s i = record { place = i; bytes = s }
+abbrev pub turn : Given → ℕ → Turn
+turn g i = record { place = i; given = g }
 
--- `n` places from `i` on; "Drives are numbered from 0"
-abbrev pub placesFrom : ℕ → ℕ → List ℕ
-placesFrom i zero = []
-placesFrom i (suc n) = i ∷ placesFrom (i + 1) n
-
+-- as an event record: a hall tick is a tick
 abbrev pub tickBytes : List ℕ
 tickBytes = bytesOf (event Kind.tick 0 0 0)
 
--- "to a list of drives, in list order"; "ticks them all"
+abbrev pub bytesIn : Given → List ℕ
+bytesIn (bytes s) = s
+bytesIn (hallTick sent) = tickBytes
+
+-- "to a list of drives, in list order"; "ticks them all"; "Drives are numbered from 0"
 abbrev pub turnsAsked : ℕ → Call → List Turn
-turnsAsked n (give list s room) = map (turn s) list
-turnsAsked n (tick room) = map (turn tickBytes) (placesFrom 0 n)
+turnsAsked n (give list s room) = map (turn (bytes s)) list
+turnsAsked n (tick quota sends room) = tabulate n (λ i. turn (hallTick (sends i)) i)
 
 -- the turns of a call on `n` drives; where it is refused itself "nothing is touched"
 unfoldable pub turnsOf : ℕ → Call → List Turn
@@ -79,19 +93,19 @@ abbrev pub at : List Drive → ℕ → Drive
 at row i = getD row i freshDrive
 
 -- what a turn gives, and the row after it: the place gets the drive that the step leaves from the drive standing there then
-abbrev pub taken : Step → List Drive → Turn → Outcome
-taken step row t = step (at row (t .place)) (t .bytes)
+abbrev pub taken : StepOn Given → List Drive → Turn → Outcome
+taken step row t = step (at row (t .place)) (t .given)
 
-abbrev pub rowWith : Step → List Drive → Turn → List Drive
+abbrev pub rowWith : StepOn Given → List Drive → Turn → List Drive
 rowWith step row t = set row (t .place) (taken step row t .drive)
 
 -- what turns give, one after the other: of a drive named twice "the event is given twice", the second time as the first left it
-unfoldable pub turned : Step → List Drive → List Turn → List Outcome
+unfoldable pub turned : StepOn Given → List Drive → List Turn → List Outcome
 turned step row [] = []
 turned step row (t ∷ ts) = taken step row t ∷ turned step (rowWith step row t) ts
 
 -- the row after them; "A drive not named keeps every field."
-unfoldable pub rowAfter : Step → List Drive → List Turn → List Drive
+unfoldable pub rowAfter : StepOn Given → List Drive → List Turn → List Drive
 rowAfter step row [] = row
 rowAfter step row (t ∷ ts) = rowAfter step (rowWith step row t) ts
 
@@ -103,10 +117,10 @@ tickNumber a = pick (isReport a) (65536 + 256 * getD (valuesOf a) 0 0 + getD (va
 -- "one answer number (0 or the refusal) per entry"; "one number per drive"
 abbrev pub answerNumber : Call → Answer → ℕ
 answerNumber (give list s room) a = numberOf a
-answerNumber (tick room) a = tickNumber a
+answerNumber (tick quota sends room) a = tickNumber a
 
 -- the answer row after a call on a row of drives; "Further places of the row keep their content."
-unfoldable pub answersAfter : Step → List Drive → Call → List ℕ → List ℕ
+unfoldable pub answersAfter : StepOn Given → List Drive → Call → List ℕ → List ℕ
 answersAfter step row c answers = answersIn (answerNumber c) (turned step row (turnsOf (length row) c)) answers
 
 -- A list of calls, each on the row that the one before left.
@@ -117,12 +131,12 @@ turnsIn n [] = []
 turnsIn n (c ∷ cs) = turnsOf n c ++ turnsIn n cs
 
 -- the row after them
-unfoldable pub hallAfter : Step → List Drive → List Call → List Drive
+unfoldable pub hallAfter : StepOn Given → List Drive → List Call → List Drive
 hallAfter step row [] = row
 hallAfter step row (c ∷ cs) = hallAfter step (rowAfter step row (turnsOf (length row) c)) cs
 
 -- what their turns gave
-unfoldable pub hallTurned : Step → List Drive → List Call → List Outcome
+unfoldable pub hallTurned : StepOn Given → List Drive → List Call → List Outcome
 hallTurned step row [] = []
 hallTurned step row (c ∷ cs) =
     let ts = turnsOf (length row) c in
@@ -130,10 +144,10 @@ hallTurned step row (c ∷ cs) =
 
 -- The share of the drive at place `i`: "its own share of the hall's calls; a hall call refused itself belongs to no share".
 
--- the bytes of its turns among these, in order
-unfoldable pub sharedOut : ℕ → List Turn → List (List ℕ)
+-- what its turns among these give, in order
+unfoldable pub sharedOut : ℕ → List Turn → List Given
 sharedOut i [] = []
-sharedOut i (t ∷ ts) = let rest = sharedOut i ts in pick (eqb (t .place) i) (t .bytes ∷ rest) rest
+sharedOut i (t ∷ ts) = let rest = sharedOut i ts in pick (eqb (t .place) i) (t .given ∷ rest) rest
 
 -- what these turns gave, of what all of them gave
 unfoldable pub ownOf : ℕ → List Turn → List Outcome → List Outcome
@@ -142,8 +156,8 @@ ownOf i (t ∷ ts) [] = []
 ownOf i (t ∷ ts) (o ∷ os) = let rest = ownOf i ts os in pick (eqb (t .place) i) (o ∷ rest) rest
 
 -- its share of a list of calls on `n` drives, and what its turns gave
-abbrev pub share : ℕ → ℕ → List Call → List (List ℕ)
+abbrev pub share : ℕ → ℕ → List Call → List Given
 share n i cs = sharedOut i (turnsIn n cs)
 
-abbrev pub own : Step → List Drive → ℕ → List Call → List Outcome
+abbrev pub own : StepOn Given → List Drive → ℕ → List Call → List Outcome
 own step row i cs = ownOf i (turnsIn (length row) cs) (hallTurned step row cs)

@@ -4,7 +4,7 @@ use mathlib.Core.Bool.{Bool, true, false, _||_}
 use mathlib.Core.List.{List, [], _∷_, _++_}
 use Prim.Native.Nat.{ℕ, zero, suc, _+_, _<_, _≤_}
 use native.Mathlib.Omega.{arith}
-use native.Mathlib.Nat.{not-suc-le-zero, le-of-suc-le-suc, zero-add}
+use native.Mathlib.Nat.{not-suc-le-zero, le-of-suc-le-suc}
 use native.Mathlib.Numerals.{add-one}
 use lib.Dec.{ltb, leb, eqb}
 use lib.ListN.{length, getD, set, take, drop, length-set, length-map, length-append, length-take, length-drop, drop-of-length-le, List·getD-map}
@@ -15,9 +15,9 @@ use Rattle.numbers.specs.Laws.{or-left, or-right, passed, cases}
 use Rattle.answer.specs.declared.Answer.{Answer}
 use Rattle.damper.specs.declared.Drive.{Drive}
 use Rattle.damper.specs.declared.Outcome.{Outcome}
-use Rattle.damper.specs.Carry.{Step, answersIn}
+use Rattle.damper.specs.Carry.{StepOn, answersIn}
 use Rattle.damper.specs.CarryLaws.{answers-more}
-use Rattle.hall.specs.Hall.{Call, give, tick, badRow, badNumber, isTick, badEvent, callRefusal, Turn, turn, placesFrom, tickBytes, turnsOf, at, rowWith, turned, rowAfter, answerNumber, answersAfter}
+use Rattle.hall.specs.Hall.{Call, give, badRow, badNumber, isTick, badEvent, badQuota, tickRefusal, callRefusal, Given, bytes, Turn, turn, turnsOf, at, rowWith, turned, rowAfter, answerNumber, answersAfter}
 
 -- the numbers of a list from `k` on: the one at `k`, and those behind it
 pub bad-here : (n k : ℕ) (list : List ℕ) → k < length list → n ≤ getD list k 0 → badNumber n (drop k list) ≡ true
@@ -57,37 +57,29 @@ given-fits n list s room e =
 pub row-few : (n : ℕ) → badRow n ≡ false → n ≤ 64
 row-few n e = ltb-false 64 n (or-right (ltb n 1) _ e)
 
-ticked-fits : (n room : ℕ) → callRefusal n (tick room) ≡ 0 → (n ≤ 64) × (n ≤ room)
-unfolding callRefusal
-ticked-fits n room e =
+-- a hall tick that is carried out: 1 to 64 drives, room for their numbers, and a quota of 1 to 64
+pub ticked-fits : (n quota room : ℕ) → tickRefusal n quota room ≡ 0 → (n ≤ 64) × (n ≤ room) × (1 ≤ quota)
+ticked-fits n quota room e =
     let r = passed (badRow n) 14 _ e (omega arith) in
     let m = passed (ltb room n) 16 _ (r .1) (omega arith) in
-    (row-few n (r .0), ltb-false room n (m .0))
+    let q = passed (badQuota quota) 18 _ (m .1) (omega arith) in
+    (row-few n (r .0), ltb-false room n (m .0), ltb-false quota 1 (or-left (ltb quota 1) _ (q .0)))
 
 -- The turns of a call, by their number and each by its place.
-
-length-places : (i n : ℕ) → length (placesFrom i n) ≡ n
-length-places i zero = refl
-length-places i (suc n) = ap suc (length-places (i + 1) n)
-
-place-at : (i n k : ℕ) → k < n → getD (placesFrom i n) k 0 ≡ i + k
-place-at i zero k h = absurd (not-suc-le-zero h)
-place-at i (suc n) zero h = omega arith
-place-at i (suc n) (suc k) h = place-at (i + 1) n k (le-of-suc-le-suc h) ∙ omega arith
 
 -- a call has no more turns than it asks for
 pub turns-most : (b : Bool) (n : ℕ) → pick b n 0 ≤ n
 turns-most true n = omega arith
 turns-most false n = omega arith
 
--- What a walk over the turns `ts` of a call on `n` drives knows of them: there are `stop`, no more than the answer row has places, and
+-- What a walk over the turns `ts` of an event call on `n` drives knows of them: there are `stop`, no more than the answer row has places, and
 -- the `k`-th gives the bytes `s` to the drive at place `p k`.
 pub record Turns (n places : ℕ) (s : List ℕ) (p : ℕ → ℕ) (stop : ℕ) (ts : List Turn) : Type 0 where
   pub count : length ts ≡ stop
   pub few : stop ≤ 64
   pub room : stop ≤ places
   pub below : (k : ℕ) → k < stop → p k < n
-  pub each : (k : ℕ) → k < stop → getD ts k (turn s 0) ≡ turn s (p k)
+  pub each : (k : ℕ) → k < stop → getD ts k (turn (bytes s) 0) ≡ turn (bytes s) (p k)
 
 no-turns : (n room : ℕ) (s : List ℕ) (p : ℕ → ℕ) → Turns n room s p 0 []
 no-turns n room s p =
@@ -108,62 +100,45 @@ give-turns n room s list stop e =
     (λ h. rw h
     (let f = given-fits n list s room (eqb-true _ 0 h) in
     record {
-      count = length-map list (turn s);
+      count = length-map list (turn (bytes s));
       few = f .1;
       room = f .2;
       below = f .0;
-      each = λ k l. List·getD-map (turn s) list k 0;
+      each = λ k l. List·getD-map (turn (bytes s)) list k 0;
     }))
     (λ h. rw h (no-turns n room s _)))
 
-pub tick-turns : (n room stop : ℕ) → stop ≡ pick (eqb (callRefusal n (tick room)) 0) n 0
-    → Turns n room tickBytes (λ k. k) stop (turnsOf n (tick room))
-unfolding turnsOf
-tick-turns n room stop e =
-    rw e
-    (cases (eqb (callRefusal n (tick room)) 0)
-    (λ h. rw h
-    (let f = ticked-fits n room (eqb-true _ 0 h) in
-    record {
-      count = length-map (placesFrom 0 n) (turn tickBytes) ∙ length-places 0 n;
-      few = f .0;
-      room = f .1;
-      below = λ k l. l;
-      each = λ k l. List·getD-map (turn tickBytes) (placesFrom 0 n) k 0 ∙ ap (turn tickBytes) (place-at 0 n k l ∙ zero-add k);
-    }))
-    (λ h. rw h (no-turns n room tickBytes _)))
-
 -- Turns in two parts: the second are taken on the row that the first left.
 
-pub row-append : (step : Step) (row : List Drive) (ts us : List Turn) → rowAfter step row (ts ++ us) ≡ rowAfter step (rowAfter step row ts) us
+pub row-append : (step : StepOn Given) (row : List Drive) (ts us : List Turn) → rowAfter step row (ts ++ us) ≡ rowAfter step (rowAfter step row ts) us
 unfolding rowAfter
 row-append step row [] us = refl
 row-append step row (t ∷ ts) us = row-append step (rowWith step row t) ts us
 
-pub turned-append : (step : Step) (row : List Drive) (ts us : List Turn)
+pub turned-append : (step : StepOn Given) (row : List Drive) (ts us : List Turn)
     → turned step row (ts ++ us) ≡ turned step row ts ++ turned step (rowAfter step row ts) us
 unfolding turned rowAfter
 turned-append step row [] us = refl
 turned-append step row (t ∷ ts) us = rw (turned-append step (rowWith step row t) ts us)
 
 -- the row keeps its length, and each turn gives one outcome
-pub row-length : (step : Step) (row : List Drive) (ts : List Turn) → length (rowAfter step row ts) ≡ length row
+pub row-length : (step : StepOn Given) (row : List Drive) (ts : List Turn) → length (rowAfter step row ts) ≡ length row
 unfolding rowAfter
 row-length step row [] = refl
 row-length step row (t ∷ ts) = row-length step (rowWith step row t) ts ∙ length-set row (t .place) _
 
-turned-length : (step : Step) (row : List Drive) (ts : List Turn) → length (turned step row ts) ≡ length ts
+pub turned-length : (step : StepOn Given) (row : List Drive) (ts : List Turn) → length (turned step row ts) ≡ length ts
 unfolding turned
 turned-length step row [] = refl
 turned-length step row (t ∷ ts) = ap suc (turned-length step (rowWith step row t) ts)
 
-answers-length : (number : Answer → ℕ) (os : List Outcome) (row : List ℕ) → length os ≤ length row → length (answersIn number os row) ≡ length row
+pub answers-length : (number : Answer → ℕ) (os : List Outcome) (row : List ℕ) → length os ≤ length row → length (answersIn number os row) ≡ length row
 unfolding answersIn
 answers-length number os row h = simp (length-append, length-map, length-drop) (omega arith)
 
 -- A walk over the turns of a call, after `k` of them: the row of drives and the answer row, at the start, after one more turn and at
 -- the end.
-module _ (step : Step) (row : List Drive) (c : Call) (answers : List ℕ) where
+module _ (step : StepOn Given) (row : List Drive) (c : Call) (answers : List ℕ) where
   abbrev ts : List Turn
   ts = turnsOf (length row) c
 
@@ -191,10 +166,10 @@ module _ (step : Step) (row : List Drive) (c : Call) (answers : List ℕ) where
 
     -- the outcome of the next turn
     abbrev next : ℕ → Outcome
-    next k = step (at (rowBy k) (p k)) s
+    next k = step (at (rowBy k) (p k)) (bytes s)
 
-    more : (k : ℕ) → k < stop → take (k + 1) ts ≡ take k ts ++ (turn s (p k) ∷ [])
-    more k h = rw (add-one, take-suc ts k (turn s 0) (rw (w .count) h), w .each k h)
+    more : (k : ℕ) → k < stop → take (k + 1) ts ≡ take k ts ++ (turn (bytes s) (p k) ∷ [])
+    more k h = rw (add-one, take-suc ts k (turn (bytes s) 0) (rw (w .count) h), w .each k h)
 
     pub row-turn : (k : ℕ) → k < stop → set (rowBy k) (p k) (next k .drive) ≡ rowBy (k + 1)
     unfolding rowAfter

@@ -1,5 +1,8 @@
 -- A hall of drives: its calls, their turns and each drive's share of them.
 pub mod Hall
+pub mod Quota
 pub mod Laws
+pub mod TickLaws
 pub mod NumberLaws
 pub mod Corners
+pub mod QuotaCorners

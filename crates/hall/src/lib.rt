@@ -4,12 +4,15 @@ ghost use Prim.Native.Nat.{_<_};
 ghost use lib.Dec.{eqb};
 ghost use lib.ListN.{length, getD};
 ghost use Rattle.numbers.specs.Numbers.{pick};
-ghost use Rattle.hall.specs.Hall.{give, tick, badRow, badNumber, isTick, callRefusal};
+ghost use Rattle.hall.specs.Hall.{give, badRow, badNumber, isTick, tickRefusal, callRefusal};
 use event::Decoded;
 use numbers::pick8;
 
 // The most drives of a row, and entries of a list.
 const MOST: usize = 64;
+
+// The most reports that a hall tick may be asked to send.
+const MOST_REPORTS: u32 = 64;
 
 fn wide(n: u32) -> usize
     ensures { λ r. ⌜ r ≡ n ⌝ }
@@ -66,11 +69,16 @@ pub fn event_refusal(drives: usize, list: &[u32], s: &[u8], places: usize) -> u8
     pick8(row, 14, pick8(number, 15, pick8(given, 16, 0)))
 }
 
-// The first of 14 and 16 that fits a hall tick, or 0.
-pub fn tick_refusal(drives: usize, places: usize) -> u8
-    ensures { λ r. ⌜ r ≡ callRefusal drives (tick places) ⌝ }
+// The first of 14, 16 and 18 that fits a hall tick, or 0.
+pub fn tick_refusal(drives: usize, quota: u32, places: usize) -> u8
+    ensures { λ r. ⌜ r ≡ tickRefusal drives quota places ⌝ }
 {
-    pick8(bad_row(drives), 14, pick8(places < drives, 16, 0))
+    let bad_quota = (quota < 1) | (MOST_REPORTS < quota);
+    pick8(
+        bad_row(drives),
+        14,
+        pick8(places < drives, 16, pick8(bad_quota, 18, 0)),
+    )
 }
 
 // How many turns a call has: as many as it asks for, or none where it is refused.

@@ -4,6 +4,7 @@ ghost use lib.ListN.{length};
 ghost use Rattle.answer.specs.Answer.{numberOf};
 ghost use Rattle.damper.specs.Step.{stepOf};
 ghost use Rattle.hall.specs.Hall.{give, callRefusal, turnsOf, rowAfter, answersAfter};
+ghost use Rattle.hall.specs.Quota.{hallStep};
 use answer::Answer;
 use damper::Drive;
 
@@ -63,8 +64,8 @@ pub extern "C" fn damper_hall_event(
     answers: &mut [u8],
 ) -> u8
     ensures { λ r. ⌜ (r ≡ callRefusal (length (now (row .entry))) (give (now (list .entry)) (now (s .entry)) (length (now (answers .entry)))))
-        × (now (row .exit) ≡ rowAfter stepOf (now (row .entry)) (turnsOf (length (now (row .entry))) (give (now (list .entry)) (now (s .entry)) (length (now (answers .entry))))))
-        × (now (answers .exit) ≡ answersAfter stepOf (now (row .entry)) (give (now (list .entry)) (now (s .entry)) (length (now (answers .entry)))) (now (answers .entry))) ⌝ }
+        × (now (row .exit) ≡ rowAfter hallStep (now (row .entry)) (turnsOf (length (now (row .entry))) (give (now (list .entry)) (now (s .entry)) (length (now (answers .entry))))))
+        × (now (answers .exit) ≡ answersAfter hallStep (now (row .entry)) (give (now (list .entry)) (now (s .entry)) (length (now (answers .entry)))) (now (answers .entry))) ⌝ }
 {
     let refusal = hall::event_refusal(row.len(), list, s, answers.len());
     let stop = hall::turns(refusal, list.len());

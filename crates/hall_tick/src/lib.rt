@@ -1,73 +1,86 @@
-// The hall tick for a host in C or Rust. An archive of its own, in which the step has one call site.
+// The hall tick for a host in C or Rust. An archive of its own, in which each part of the tick has one call site.
 ghost use mathlib.Core.Path.{_≡_};
+ghost use mathlib.Core.Bool.{true, false};
+ghost use Prim.Native.Nat.{_<_, max};
 ghost use lib.ListN.{length};
-ghost use Rattle.damper.specs.Step.{stepOf};
-ghost use Rattle.hall.specs.Hall.{tick, callRefusal, tickBytes, tickNumber, turnsOf, rowAfter, answersAfter};
-use answer::Answer;
+ghost use Rattle.damper.specs.Record.{withWait};
+ghost use Rattle.damper.specs.Tick.{reported};
+ghost use Rattle.choice.specs.Choice.{keyOf, sentBy};
+ghost use Rattle.hall.specs.Hall.{tick, callRefusal, tickNumber, turnsOf, rowAfter, answersAfter};
+ghost use Rattle.hall.specs.Quota.{dueNow, hallTicked, hallStep, allowedCall};
 use damper::Drive;
+use numbers::max32;
+use numbers::next16;
+use numbers::pick16;
+use numbers::pick32;
 
-// A drive after a tick, and the number that the host gets for it.
-pub struct Ticked {
+// A drive after steps 1 to 3, its report held if it is due; the number of that report, or of what else the tick gave; and the largest
+// key so far of a drive that is due.
+pub struct Held {
     pub drive: Drive,
     pub number: u32,
+    pub lead: u32,
 }
 
-// 0 silent, 65,536 + 256 × position + status for a report, otherwise the refusal.
-fn number_of(a: Answer) -> u32
-    ensures { λ r. ⌜ r ≡ tickNumber a ⌝ }
+// One drive's turn, as if its report were held; the number is the one that it has if its report is sent.
+fn hold_one(d: Drive, place: usize, lead: u32) -> Held
+    requires { ⌜ place < 64 ⌝ }
+    ensures { λ r. ⌜ (r .drive ≡ hallTicked false d .drive) × (r .number ≡ tickNumber (hallTicked (dueNow d) d .answer))
+        × (r .lead ≡ max lead (keyOf (dueNow d) (d .wait) place)) ⌝ }
 {
-    match a {
-        Answer::No(n) => n as u32,
-        Answer::Done => 0,
-        Answer::Par(_) => 0,
-        Answer::At {
-            position: _,
-            percent: _,
-            status: _,
-        } => 0,
-        Answer::Tick {
-            position: _,
-            rank: _,
-            motor: _,
-        } => 0,
-        Answer::Report {
-            position,
-            rank: _,
-            motor: _,
-            status,
-        } => 65536 + 256 * (position as u32) + (status as u32),
+    if !d.well_formed() {
+        return Held {
+            drive: d,
+            number: 1,
+            lead: lead,
+        };
+    }
+    let a = d.advance();
+    let n = a.drive;
+    let status = n.status();
+    let due = n.due(status);
+    let number = 65536 + 256 * (n.position as u32) + (status as u32);
+    Held {
+        drive: n.with_wait(pick16(due, next16(d.wait), 0)),
+        number: pick32(due, number, 0),
+        lead: max32(lead, choice::key(due, d.wait, place)),
     }
 }
 
-// One drive's turn.
-fn tick_one(d: Drive) -> Ticked
-    ensures { λ r. ⌜ (r .drive ≡ stepOf d tickBytes .drive) × (r .number ≡ tickNumber (stepOf d tickBytes .answer)) ⌝ }
+// The report that was held goes out.
+fn send_one(d: Drive) -> Drive
+    ensures { λ r. ⌜ r ≡ withWait (reported d) 0 ⌝ }
 {
-    let bytes: [u8; 6] = [0x5A, 0xC3, 1, 0, 0, 0];
-    let o = d.step(&bytes);
-    let next = o.drive;
-    let a = o.answer;
-    Ticked {
-        drive: next,
-        number: number_of(a),
-    }
+    d.with_report(d.status()).with_wait(0)
 }
 
-// Ticks each drive of the row, in order, and fills one number for each. Refused by 14 or 16, it changes nothing.
+// Ticks each drive of the row and fills one number for each. Of those that are due it sends at most the quota, and the one that waited
+// longest in any case. Refused by 14, 16 or 18, it changes nothing. Who was sent is read off the numbers: this is a choice that it may make,
+// and decides all else.
 #[no_mangle]
-pub extern "C" fn damper_hall_tick(row: &mut [Drive], numbers: &mut [u32]) -> u8
-    ensures { λ r. ⌜ (r ≡ callRefusal (length (now (row .entry))) (tick (length (now (numbers .entry)))))
-        × (now (row .exit) ≡ rowAfter stepOf (now (row .entry)) (turnsOf (length (now (row .entry))) (tick (length (now (numbers .entry))))))
-        × (now (numbers .exit) ≡ answersAfter stepOf (now (row .entry)) (tick (length (now (numbers .entry)))) (now (numbers .entry))) ⌝ }
+pub extern "C" fn damper_hall_tick(row: &mut [Drive], quota: u32, numbers: &mut [u32]) -> u8
+    ensures { λ r. ⌜ (r ≡ callRefusal (length (now (row .entry))) (tick quota (sentBy (now (numbers .exit))) (length (now (numbers .entry)))))
+        × (allowedCall (now (row .entry)) (tick quota (sentBy (now (numbers .exit))) (length (now (numbers .entry)))) ≡ true)
+        × (now (row .exit) ≡ rowAfter hallStep (now (row .entry)) (turnsOf (length (now (row .entry))) (tick quota (sentBy (now (numbers .exit))) (length (now (numbers .entry))))))
+        × (now (numbers .exit) ≡ answersAfter hallStep (now (row .entry)) (tick quota (sentBy (now (numbers .exit))) (length (now (numbers .entry)))) (now (numbers .entry))) ⌝ }
 {
-    let refusal = hall::tick_refusal(row.len(), numbers.len());
+    let refusal = hall::tick_refusal(row.len(), quota, numbers.len());
     let stop = hall::turns(refusal, row.len());
+    let mut lead: u32 = 0;
     let mut i: usize = 0;
     while i < stop {
-        let t = tick_one(row[i]);
-        row[i] = t.drive;
-        numbers[i] = t.number;
+        let h = hold_one(row[i], i, lead);
+        row[i] = h.drive;
+        numbers[i] = h.number;
+        lead = h.lead;
         i += 1;
+    }
+    let mut k = choice::choose(numbers, stop, quota, lead);
+    while k < stop {
+        let d = send_one(row[k]);
+        row[k] = d;
+        let next = choice::next_sent(numbers, k + 1, stop);
+        k = next;
     }
     refusal
 }

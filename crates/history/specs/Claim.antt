@@ -1,11 +1,12 @@
 -- Demand 3 as a claim about a trace. From the trace come only the answers, which may be reports, and the damper's positions;
 -- what is accepted, in force or active, the target, the position and the status that a tick leaves are read off the list.
 use mathlib.Core.Path.{_≡_}
-use mathlib.Core.Bool.{Bool, true, false, _&&_, _||_}
+use mathlib.Core.Bool.{Bool, true, false, _&&_}
 use mathlib.Core.List.{List, [], _∷_, _++_}
 use Prim.Native.Nat.{ℕ, _+_, _≤_, min}
 use lib.Dec.{eqb}
 use Rattle.numbers.specs.Numbers.{pick, distance}
+use Rattle.numbers.specs.Counts as Counts
 use Rattle.table.specs.Table.{minRepTime, actPosCov, rate}
 use Rattle.event.specs.declared.Event.{Event}
 use Rattle.event.specs.Event.{eventIn}
@@ -61,14 +62,12 @@ abbrev pub reports : Moment → Bool
 reports m = isReport (m .answer)
 
 -- "Only accepted ticks count": the accepted ticks among the records of `new`, which came after the trace `old`
-unfoldable pub ticksIn : Trace → Trace → ℕ
-ticksIn [] old = 0
-ticksIn (m ∷ new) old = let n = ticksIn new old in pick (acceptedAs isTick m (new ++ old)) (n + 1) n
+abbrev pub ticksIn : Trace → Trace → ℕ
+ticksIn new old = Counts.ticksIn (acceptedAs isTick) new old
 
 -- no accepted restart and no report among the records of `new`, which came after the trace `old`
-pub data Quiet (old : Trace) : Trace → Type 0 where
-  none : Quiet old []
-  more : {m : Moment} {new : Trace} → acceptedAs isRestart m (new ++ old) ≡ false → reports m ≡ false → Quiet old new → Quiet old (m ∷ new)
+abbrev pub Quiet : Trace → Trace → Type 0
+Quiet old new = Counts.Quiet (λ m t. reports m) (acceptedAs isRestart) old new
 
 -- the last report since the last restart
 abbrev pub orEarlier : Sent → Sent → Sent
@@ -121,13 +120,15 @@ Others m t = acceptedAs isTick m t ≡ false → (m .position ≡ positionAfter 
 
 -- Ours, from step 4: a tick reports just where it is due by the ticks after the latest report or restart, or from the beginning on,
 -- itself counted, by the position and the status that it leaves, and by the last report since the last restart.
-unfoldable pub since : Trace → ℕ
-since [] = 0
-since (m ∷ t) = let n = since t in pick (reports m || acceptedAs isRestart m t) 0 (pick (acceptedAs isTick m t) (n + 1) n)
+abbrev pub since : Trace → ℕ
+since t = Counts.since (acceptedAs isTick) (λ m t. reports m) (acceptedAs isRestart) t
+
+-- step 4 read off the list, at a tick
+abbrev pub dueIn : Moment → Trace → Bool
+dueIn m t = reportDue (inForce m t) (since t + 1) (positionIn (accepted (m ∷ t))) (statusIn (accepted (m ∷ t))) (lastReport t)
 
 abbrev pub Due : Moment → Trace → Type 0
-Due m t = acceptedAs isTick m t ≡ true
-    → reports m ≡ reportDue (inForce m t) (since t + 1) (positionIn (accepted (m ∷ t))) (statusIn (accepted (m ∷ t))) (lastReport t)
+Due m t = acceptedAs isTick m t ≡ true → reports m ≡ dueIn m t
 
 -- each answer refuses by exactly the number of the list's own judgement, 0 if accepted
 abbrev pub Refusal : Moment → Trace → Type 0
@@ -152,6 +153,33 @@ pub record Holds (m : Moment) (t : Trace) : Type 0 where
 abbrev pub Claim : Trace → Type 0
 Claim [] = Unit {0}
 Claim (m ∷ t) = Holds m t × Claim t
+
+-- The sentences for a drive of a hall, whose reports may be held back (document 02, W-204): those about spacing, moves, content, other
+-- events and refusals as they are, and of step 4 one direction.
+
+-- a tick reports only if step 4 would
+abbrev pub OnlyDue : Moment → Trace → Type 0
+OnlyDue m t = acceptedAs isTick m t ≡ true → reports m ≡ true → dueIn m t ≡ true
+
+-- where step 4 would not report, the sentence about waiting holds
+abbrev pub WaitingUndue : Moment → Trace → Type 0
+WaitingUndue m t = dueIn m t ≡ false → Waiting m t
+
+pub record HallHolds (m : Moment) (t : Trace) : Type 0 where
+  pub spacing : Spacing m t
+  pub waiting : WaitingUndue m t
+  pub move : Move m t
+  pub position : Position m t
+  pub content : Content m t
+  pub others : Others m t
+  pub only : OnlyDue m t
+  pub refusal : Refusal m t
+  pub formed : Formed m t
+
+-- The claim about a whole trace of such a drive.
+abbrev pub HallClaim : Trace → Type 0
+HallClaim [] = Unit {0}
+HallClaim (m ∷ t) = HallHolds m t × HallClaim t
 
 -- the trace of a list of records and of what they gave, after the trace `t`
 unfoldable pub traceOn : Trace → List (List ℕ) → List Outcome → Trace

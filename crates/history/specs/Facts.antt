@@ -9,6 +9,7 @@ use lib.ListN.{length}
 use borrow.Author.Tests.{leb-true, leb-false, le-leb, lt-leb, eqb-true, ne-eqb}
 use Rattle.numbers.specs.Numbers.{pick, on, next}
 use Rattle.numbers.specs.Laws.{cases, and-left, and-right}
+use Rattle.numbers.specs.Counts as Counts
 use Rattle.table.specs.Table.{rows, rowAt, allIn, minRepTime, actPosCov, repPer}
 use Rattle.table.specs.Laws.{range-at, bounds}
 use Rattle.event.specs.declared.Event.{Event}
@@ -18,14 +19,13 @@ use Rattle.motion.specs.Laws.{move-distance, move-left}
 use Rattle.rules.specs.Report.{changed, Sent, silent, sent, reportDue}
 use Rattle.rules.specs.Refusal.{wrongProperty, outsideTable, lowAboveHigh, rateInRun, runForbidden, stateRefusal, refusal}
 use Rattle.rules.specs.RefusalLaws.{refusal-passed}
-use Rattle.answer.specs.declared.Answer.{Answer}
-use Rattle.answer.specs.declared.Answer.the-variants.{No, Done, Par, At, Tick, Report}
+use Rattle.answer.specs.declared.Answer.the-variants.{No}
 use Rattle.damper.specs.declared.Last.{Last}
 use Rattle.damper.specs.declared.Drive.{Drive}
 use Rattle.damper.specs.declared.Advanced.{Advanced}
 use Rattle.damper.specs.declared.Outcome.{Outcome}
 use Rattle.answer.specs.Answer.{isReport}
-use Rattle.damper.specs.Record.{last}
+use Rattle.damper.specs.Record.{last, withWait}
 use Rattle.damper.specs.WellFormed.{wellFormed}
 use Rattle.damper.specs.Tick.{advance, due, dueWith, statusOf}
 use Rattle.damper.specs.Step.{outcome, tickWith, ticked, applied, judgedBy}
@@ -54,7 +54,7 @@ pub record Good (d : Drive) (t : C.Trace) : Type 0 where
 -- what the record `s` does to the drive `d` after the trace `t`, `o` being the outcome
 pub record Facts (d : Drive) (t : C.Trace) (s : List ℕ) (o : Outcome) : Type 0 where
   pub good : Good (o .drive) (momentOf s o ∷ t)
-  pub due : C.Due (momentOf s o) t
+  pub only : C.OnlyDue (momentOf s o) t
   pub move : C.Move (momentOf s o) t
   pub content : C.Content (momentOf s o) t
   pub others : C.Others (momentOf s o) t
@@ -94,12 +94,12 @@ not-one s m l h r f =
 
 module _ (d : Drive) (t : C.Trace) (s : List ℕ) (g : Good d t) (j : R.judgement (C.accepted t) s ≡ 0 → ⊥) where
   pub facts-refused : Facts d t s (outcome d (No (R.judgement (C.accepted t) s)))
-  unfolding C.accepted C.since C.lastReport R.judgement
+  unfolding C.accepted Counts.since C.lastReport R.judgement
   facts-refused =
       let J : eqb (R.judgement (C.accepted t) s) 0 ≡ false = ne-eqb _ 0 j in
       record {
         good = record { wf = g .wf; agrees = rw J (g .agrees); position = rw J (g .position); trace = refl; since = rw J (g .since); last = rw J (g .last) };
-        due = λ p. absurd (false≢true (rw J at p));
+        only = λ p. absurd (false≢true (rw J at p));
         move = λ p. absurd (false≢true (rw J at p));
         content = λ q. absurd (false≢true q);
         others = λ p. (sym (g .trace), refl);
@@ -124,11 +124,16 @@ last-law true q p s l x y a b c = refl
 last-law false true p s l x y a b c = rw (a refl)
 last-law false false p s l x y a b c = rw (b refl) c
 
--- step 4 does not touch what the status is made of
+-- step 4 touches neither what the status is made of nor what agrees with the list
 tick-status : (b : Bool) (a : Advanced) → statusOf (tickWith b a .drive) ≡ statusOf (a .drive)
 unfolding tickWith
 tick-status true a = refl
 tick-status false a = refl
+
+tick-agrees : (b : Bool) (a : Advanced) (h : List Event) → Agrees (tickWith b a .drive) h → Agrees (a .drive) h
+unfolding tickWith
+tick-agrees true a h g = record { params = g .params; commands = g .commands; age = g .age; run = g .run }
+tick-agrees false a h g = g
 
 -- step 4 by the record's last report, and by what that says
 due-law : (q : List ℕ) (n p s : ℕ) (l : Last)
@@ -190,12 +195,14 @@ module _ (d : Drive) (t : C.Trace) (s : List ℕ) (g : Good d t) (j : R.judgemen
   position-tick : e .kind ≡ 1 → advance d .drive .position ≡ R.positionIn (e ∷ h)
   position-tick k = sym (F.position-after d e ok ∙ rw k) ∙ position′
 
-  status-tick : e .kind ≡ 1 → statusOf (advance d .drive) ≡ R.statusIn (e ∷ h)
+  as-tick : e .kind ≡ 1 → applied d e ≡ tickWith (due (advance d .drive)) (advance d)
   unfolding applied ticked
+  as-tick k = rw k
+
+  status-tick : e .kind ≡ 1 → statusOf (advance d .drive) ≡ R.statusIn (e ∷ h)
   status-tick k =
-      let z : applied d e ≡ tickWith (due (advance d .drive)) (advance d) = rw k in
       sym (tick-status (due (advance d .drive)) (advance d))
-      ∙ sym (ap (λ (x : Outcome). statusOf (x .drive)) z)
+      ∙ sym (ap (λ (x : Outcome). statusOf (x .drive)) (as-tick k))
       ∙ status-agrees (applied d e .drive) (e ∷ h) wf′ agrees′
 
   -- step 4 of a tick, in the list's terms
@@ -206,6 +213,11 @@ module _ (d : Drive) (t : C.Trace) (s : List ℕ) (g : Good d t) (j : R.judgemen
       due-law (advance d .drive .params) (advance d .drive .since) (advance d .drive .position) (statusOf (advance d .drive)) (advance d .drive .last)
       ∙ rw (status-tick k, position-tick k, F.advance-params d, F.advance-since d, F.advance-last d, g .since, g .last)
       (due-capped (d .params) (C.since t) _ _ _ (K.parts d (g .wf) .params) ∙ rw (params-tick k))
+
+  -- for a tick with any outcome
+  pub due-read : e .kind ≡ 1 → (o : Outcome) → due (advance d .drive) ≡ C.dueIn (momentOf s o) t
+  unfolding C.accepted
+  due-read k o = rw J (due-tick k)
 
   tick-kind : C.acceptedAs R.isTick (momentOf s (applied d e)) t ≡ true → e .kind ≡ 1
   tick-kind p = eqb-true (e .kind) 1 (and-right (eqb (R.judgement (C.accepted t) s) 0) _ p)
@@ -234,21 +246,28 @@ module _ (d : Drive) (t : C.Trace) (s : List ℕ) (g : Good d t) (j : R.judgemen
       ∙ since-law (R.isRestart e) (R.isTick e) (due (advance d .drive)) (d .since) (C.since t) (g .since)
       ∙ rw (F.report-after d e ok)
 
+  -- What is due is sent: the one fact that a tick which is held back lacks.
+  pub due-sent : C.Due (momentOf s (applied d e)) t
+  due-sent p =
+      let k = tick-kind p in
+      let q : isReport (applied d e .answer) ≡ due (advance d .drive) = F.report-after d e ok ∙ rw k in
+      q ∙ due-read k (applied d e)
+
+  -- the move of a tick, whether it reports or not
+  move-tick : (o : Outcome) → (e .kind ≡ 1 → o .drive .position ≡ advance d .drive .position) → C.Move (momentOf s o) t
+  unfolding C.accepted
+  move-tick o x p =
+      let k = tick-kind p in
+      let q = x k ∙ move-agrees d h (g .wf) (g .agrees) (g .position) e dr wf′ k in
+      rw (J, parameters-other e h (rw k), g .trace ∙ g .position, q) (move-distance _ _ _, move-left _ _ _)
+
   pub facts-accepted : Facts d t s (applied d e)
-  unfolding C.accepted C.since C.lastReport
+  unfolding C.accepted Counts.since C.lastReport
   facts-accepted =
       record {
         good = record { wf = wf′; agrees = rw J agrees′; position = rw J position′; trace = refl; since = rw J since′; last = rw J last′ };
-        due =
-            λ p.
-            let k = tick-kind p in
-            let q : isReport (applied d e .answer) ≡ due (advance d .drive) = F.report-after d e ok ∙ rw k in
-            q ∙ rw J (due-tick k);
-        move =
-            λ p.
-            let k = tick-kind p in
-            let q = (F.position-after d e ok ∙ rw k) ∙ move-agrees d h (g .wf) (g .agrees) (g .position) e dr wf′ k in
-            rw (J, parameters-other e h (rw k), g .trace ∙ g .position, q) (move-distance _ _ _, move-left _ _ _);
+        only = λ p q. sym (due-sent p) ∙ q;
+        move = move-tick (applied d e) (λ k. F.position-after d e ok ∙ rw k);
         content = λ q. let k = sent-tick q .0 in sent-what k (sent-tick q .1) ∙ rw (J, position-tick k, status-tick k);
         others =
             λ p.
@@ -257,3 +276,63 @@ module _ (d : Drive) (t : C.Trace) (s : List ℕ) (g : Good d t) (j : R.judgemen
         refusal = F.number-after d e ok ∙ sym j;
         formed = λ q. let z : _≡_ {A = ℕ} 0 1 = sym (F.number-after d e ok) ∙ q in omega arith;
       }
+
+  -- a tick with a report and without
+  module _ (k : e .kind ≡ 1) where
+    facts-sent : due (advance d .drive) ≡ true → Facts d t s (tickWith true (advance d))
+    facts-sent q = rw (as-tick k, q) at facts-accepted
+
+    -- a report that is held back, if one is due: nothing is reported, and since goes on
+    facts-held : Facts d t s (tickWith false (advance d))
+    unfolding tickWith C.accepted Counts.since C.lastReport
+    facts-held =
+        record {
+          good =
+              record {
+                wf = K.wf-advance d (g .wf);
+                agrees = rw J (tick-agrees (due (advance d .drive)) (advance d) (e ∷ h) (rw (as-tick k) at agrees′));
+                position = rw J (position-tick k);
+                trace = refl;
+                since = rw (J, k, F.advance-since d) (since-law false true false (d .since) (C.since t) (g .since));
+                last = rw (J, k, F.advance-last d) (g .last);
+              };
+          only = λ p q. absurd (false≢true q);
+          move = move-tick (tickWith false (advance d)) (λ z. refl);
+          content = λ q. absurd (false≢true q);
+          others = λ p. absurd (false≢true (sym p ∙ rw (J, k)));
+          refusal = sym j;
+          formed = λ q. omega arith;
+        }
+
+-- A tick with a report, if that is due, or without.
+pub facts-tick : (d : Drive) (t : C.Trace) (s : List ℕ) (sent : Bool) → Good d t → R.judgement (C.accepted t) s ≡ 0 → eventIn s .kind ≡ 1
+    → (sent ≡ true → due (advance d .drive) ≡ true) → Facts d t s (tickWith sent (advance d))
+facts-tick d t s true g j k q = facts-sent d t s g j k (q refl)
+facts-tick d t s false g j k q = facts-held d t s g j k
+
+-- The wait is no part of it (document 02, W-204).
+pub good-wait : (d : Drive) (t : C.Trace) (w : ℕ) → Good d t → Good (withWait d w) t
+unfolding wellFormed
+good-wait d t w g =
+    let a = g .agrees in
+    record {
+      wf = g .wf;
+      agrees = record { params = a .params; commands = a .commands; age = a .age; run = a .run };
+      position = g .position;
+      trace = g .trace;
+      since = g .since;
+      last = g .last;
+    }
+
+pub facts-wait : {d : Drive} {t : C.Trace} {s : List ℕ} {o : Outcome} → Facts d t s o → (w : ℕ)
+    → Facts d t s (outcome (withWait (o .drive) w) (o .answer))
+facts-wait {d} {t} {s} {o} f w =
+    record {
+      good = good-wait (o .drive) (momentOf s o ∷ t) w (f .good);
+      only = f .only;
+      move = f .move;
+      content = f .content;
+      others = f .others;
+      refusal = f .refusal;
+      formed = f .formed;
+    }

@@ -6,6 +6,7 @@ use Prim.Native.Nat.{ℕ, _+_}
 use lib.Dec.{eqb}
 use Rattle.numbers.specs.Numbers.{pick}
 use Rattle.numbers.specs.Laws.{cases}
+use Rattle.numbers.specs.Counts as Counts
 use Rattle.event.specs.declared.Event.{Event}
 use Rattle.event.specs.Event.{eventIn}
 use Rattle.rules.specs.Report.{Sent, silent, sent}
@@ -59,7 +60,7 @@ module _ (m : C.Moment) (t : C.Trace) (w : C.Holds m t) where
     refused-accepted = rw j
 
     pub refused-state : stateIn (m ∷ t) ≡ stateIn t
-    unfolding C.since C.lastReport
+    unfolding Counts.since C.lastReport
     refused-state = rw (j, quiet, silent-in (m .answer) quiet)
 
   -- one that is accepted tells what the list says
@@ -83,7 +84,7 @@ module _ (m : C.Moment) (t : C.Trace) (w : C.Holds m t) where
     passed-entry n es = rw (← reports-read) (entry-law (C.reports m) n _ _ _ es sent-read (silent-in (m .answer)))
 
     pub passed-state : stateIn (m ∷ t) ≡ L.stateAfter e h (stateIn t)
-    unfolding C.since C.lastReport
+    unfolding Counts.since C.lastReport
     passed-state =
         rw (← reports-read, j)
         (state-law (R.isRestart e) (C.reports m) (R.isTick e) (C.since t) _ (C.lastReport t) _ _ sent-read (silent-in (m .answer)))
@@ -116,7 +117,7 @@ log-from step (s ∷ l) d t n c =
 
 -- For every list of event records, any drive whose trace meets the claim sends the reports that the list decides, no others.
 pub log-decided : (step : Step) (l : List (List ℕ)) → C.Claim (C.traceOf step l) → C.logOf step l ≡ L.logIn l
-unfolding C.accepted C.since C.lastReport
+unfolding C.accepted Counts.since C.lastReport
 log-decided step l c = log-from step l freshDrive [] 0 c
 
 -- The reports of the proved drive are those read off the list.

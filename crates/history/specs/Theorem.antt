@@ -2,14 +2,15 @@
 use mathlib.Core.Path.{_≡_, refl, sym, _∙_}
 use mathlib.Core.Bool.{true}
 use mathlib.Core.List.{List, [], _∷_}
-use Prim.Native.Nat.{ℕ, _+_}
+use Prim.Native.Nat.{ℕ, _+_, _≤_}
 use native.Mathlib.Omega.{arith}
 use native.Mathlib.Nat.{zero-add}
 use lib.Dec.{eqb}
 use lib.ListN.{length}
 use borrow.Author.Tests.{eqb-true, eqb-false}
-use Rattle.numbers.specs.Laws.{cases}
-use Rattle.table.specs.Table.{rows, rowAt, allIn}
+use Rattle.numbers.specs.Laws.{cases, and-left}
+use Rattle.numbers.specs.Counts as Counts
+use Rattle.table.specs.Table.{rows, rowAt, allIn, minRepTime}
 use Rattle.table.specs.Laws.{range-at, bounds}
 use Rattle.damper.specs.declared.Drive.{Drive}
 use Rattle.damper.specs.declared.Outcome.{Outcome}
@@ -22,14 +23,14 @@ use Rattle.history.specs.Readings as R
 use Rattle.history.specs.RunLaws.{leftIn}
 use Rattle.history.specs.Claim as C
 use Rattle.history.specs.Claim.{momentOf}
-use Rattle.history.specs.Waits.{spacing, waiting}
-use Rattle.history.specs.Facts.{Good, Facts, judged, facts-refused, facts-accepted}
+use Rattle.history.specs.Waits.{spacing, waiting-undue, waiting}
+use Rattle.history.specs.Facts.{Good, Facts, judged, facts-refused, facts-accepted, due-sent}
 
 -- the list's own judgement is the drive's
 refused-by : (d : Drive) (t : C.Trace) (s : List ℕ) → Good d t → refusalOf d s ≡ R.judgement (C.accepted t) s
 refused-by d t s g = F.refusal-wf d s (g .wf) ∙ judged d t s g
 
-facts : (d : Drive) (t : C.Trace) (s : List ℕ) → Good d t → Facts d t s (stepOf d s)
+pub facts : (d : Drive) (t : C.Trace) (s : List ℕ) → Good d t → Facts d t s (stepOf d s)
 facts d t s g =
     cases (eqb (R.judgement (C.accepted t) s) 0)
     (λ q. let j = eqb-true _ 0 q in rw (F.step-accepted d s (refused-by d t s g ∙ j)) (facts-accepted d t s g j))
@@ -37,22 +38,48 @@ facts d t s g =
     let j = eqb-false _ 0 q in
     rw (F.step-refused d s (λ z. j (sym (refused-by d t s g) ∙ z)), refused-by d t s g) (facts-refused d t s g j))
 
+-- what is due is sent
+due-sends : (d : Drive) (t : C.Trace) (s : List ℕ) → Good d t → C.Due (momentOf s (stepOf d s)) t
+due-sends d t s g p =
+    let j = eqb-true _ 0 (and-left (eqb (R.judgement (C.accepted t) s) 0) _ p) in
+    rw (F.step-accepted d s (refused-by d t s g ∙ j)) (due-sent d t s g j p)
+
 module _ (d : Drive) (t : C.Trace) (s : List ℕ) (o : Outcome) (f : Facts d t s o) where
   in-range : allIn rows (C.inForce (momentOf s o) t) ≡ true
   in-range = rw (f .good .agrees .params) at (K.parts _ (f .good .wf) .params)
 
-  holds : C.Holds (momentOf s o) t
-  holds =
+  time-pos : 1 ≤ minRepTime (C.inForce (momentOf s o) t)
+  time-pos = bounds (rowAt rows 3) _ (range-at rows _ 3 in-range (omega arith)) .0
+
+  -- whatever the outcome of a record, be it of a step or of a hall tick
+  pub hall-holds : C.HallHolds (momentOf s o) t
+  hall-holds =
       record {
-        spacing = spacing (momentOf s o) t (f .due) (f .others);
-        waiting = waiting (momentOf s o) t (f .due) (bounds (rowAt rows 3) _ (range-at rows _ 3 in-range (omega arith)) .0);
+        spacing = spacing (momentOf s o) t (f .only) (f .others);
+        waiting = waiting-undue (momentOf s o) t time-pos;
         move = f .move;
         position = f .good .position;
         content = f .content;
         others = f .others;
-        due = f .due;
+        only = f .only;
         refusal = f .refusal;
         formed = f .formed;
+      }
+
+  -- where what is due is sent
+  holds : C.Due (momentOf s o) t → C.Holds (momentOf s o) t
+  holds q =
+      let h = hall-holds in
+      record {
+        spacing = h .spacing;
+        waiting = waiting (momentOf s o) t q time-pos;
+        move = h .move;
+        position = h .position;
+        content = h .content;
+        others = h .others;
+        due = q;
+        refusal = h .refusal;
+        formed = h .formed;
       }
 
 claims : (l : List (List ℕ)) (d : Drive) (t : C.Trace) → Good d t → C.Claim t → C.Claim (C.traceOn t l (outcomes stepOf d l))
@@ -61,7 +88,7 @@ claims [] d t g c = c
 claims (s ∷ ss) d t g c =
     let f = facts d t s g in
     let o = stepOf d s in
-    claims ss (o .drive) (momentOf s o ∷ t) (f .good) (holds d t s o f, c)
+    claims ss (o .drive) (momentOf s o ∷ t) (f .good) (holds d t s o f (due-sends d t s g), c)
 
 -- the drive that a list leaves agrees with the list
 goods : (l : List (List ℕ)) (d : Drive) (t : C.Trace) → Good d t → Good (driveAfter d (outcomes stepOf d l)) (C.traceOn t l (outcomes stepOf d l))
@@ -69,8 +96,8 @@ unfolding outcomes driveAfter C.traceOn
 goods [] d t g = g
 goods (s ∷ ss) d t g = let o = stepOf d s in goods ss (o .drive) (momentOf s o ∷ t) (facts d t s g .good)
 
-fresh-good : Good freshDrive []
-unfolding C.accepted C.since C.lastReport R.parameters R.parameterIn R.latest R.current R.faultIn R.forcingIn R.handIn R.handValue R.toolIn R.toolValue R.setpointIn R.setpointValue R.setpointAge R.runIn leftIn R.positionIn
+pub fresh-good : Good freshDrive []
+unfolding C.accepted Counts.since C.lastReport R.parameters R.parameterIn R.latest R.current R.faultIn R.forcingIn R.handIn R.handValue R.toolIn R.toolValue R.setpointIn R.setpointValue R.setpointAge R.runIn leftIn R.positionIn
 fresh-good =
     record {
       wf = K.wf-fresh;

@@ -150,6 +150,11 @@ module _ (d : Drive) where
   unfolding obeyed applied tickWith advance aged moved calibrated restarted
   last-after = after (λ o. o .drive .last) d _ (λ q. rw q) (λ q. rw q) (λ c q. refl) (λ c q. refl) refl
 
+  -- the wait: a restart clears it, and no other event changes it
+  pub wait-after : (e : Event) → badKind (e .kind) ≡ false → applied d e .drive .wait ≡ pick (eqb (e .kind) 9) 0 (d .wait)
+  unfolding obeyed applied tickWith advance aged moved calibrated restarted
+  wait-after = plain (λ o. o .drive .wait) d _ refl
+
   -- the answer: it is a report just where a tick is due, and no refusal
   pub report-after : (e : Event) → badKind (e .kind) ≡ false
       → isReport (applied d e .answer) ≡ eqb (e .kind) 1 && due (advance d .drive)

@@ -83,7 +83,7 @@ abbrev pub withFault : ℕ → Drive
 withFault f = withCommands freshDrive (interlocked noCommands f 0) 0 noRun
 
 abbrev pub withLast : Last → Drive
-withLast x = drive 0 freshValues noCommands 0 noRun 0 x
+withLast x = drive 0 freshValues noCommands 0 noRun 0 x 0
 
 -- age and since
 abbrev pub counts : Drive → List ℕ
@@ -374,7 +374,7 @@ table =
     ∷ row (tests (map wellFormed (withParam freshDrive 9 0 ∷ withParam freshDrive 3 3601 ∷ withParam (withParam freshDrive 10 10) 11 9 ∷ [])))
     (tests (replicate 3 false)) refl
     -- not: eleven parameters, forcing 4
-    ∷ row (tests (map wellFormed (drive 0 (drop 1 freshValues) noCommands 0 noRun 0 (last 0 0 0) ∷ withForcing 4 ∷ [])))
+    ∷ row (tests (map wellFormed (drive 0 (drop 1 freshValues) noCommands 0 noRun 0 (last 0 0 0) 0 ∷ withForcing 4 ∷ [])))
     (tests (false ∷ false ∷ [])) refl
     -- not: a run with 0 or K + 1 ticks left, no run with 1
     ∷ row (tests (map wellFormed (withRun freshDrive (run 1 0) ∷ withRun freshDrive (run 1 52) ∷ withRun freshDrive (run 0 1) ∷ [])))

@@ -15,6 +15,12 @@ pub fn pick16(c: bool, a: u16, b: u16) -> u16
     if c { a } else { b }
 }
 
+pub fn pick32(c: bool, a: u32, b: u32) -> u32
+    ensures { λ r. ⌜ r ≡ pick c a b ⌝ }
+{
+    if c { a } else { b }
+}
+
 // The bound lets a caller's sum of bits fit without a proof of its own.
 pub fn bit(c: bool, w: u8) -> u8
     ensures value { λ r. ⌜ r ≡ bit c w ⌝ }
@@ -36,6 +42,12 @@ pub fn min_size(a: usize, b: usize) -> usize
 }
 
 pub fn max8(a: u8, b: u8) -> u8
+    ensures { λ r. ⌜ r ≡ max a b ⌝ }
+{
+    if a < b { b } else { a }
+}
+
+pub fn max32(a: u32, b: u32) -> u32
     ensures { λ r. ⌜ r ≡ max a b ⌝ }
 {
     if a < b { b } else { a }

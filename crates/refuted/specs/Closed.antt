@@ -3,11 +3,12 @@ use mathlib.Core.Path.{_≡_}
 use mathlib.Core.Bool.{Bool, true, _&&_}
 use mathlib.Core.List.{List, [], _∷_}
 use Rattle.numbers.specs.Laws.{and-left, and-right}
+use Rattle.numbers.specs.Counts.{ticksIn, since}
 use Rattle.rules.specs.Report.{reportDue}
 use Rattle.damper.specs.Closed as Drive
 use Rattle.history.specs.Closed.{readings}
 use Rattle.history.specs.Log.{logFrom}
-use Rattle.history.specs.Claim.{accepted, ticksIn, lastReport, since, traceOn, reportsFrom}
+use Rattle.history.specs.Claim.{accepted, lastReport, traceOn, reportsFrom}
 
 -- `unfolding computation` opens the drive, the readings and the claim's functions, so that a list of records computes
 unfoldable pub computation : Unit {0}

@@ -8,6 +8,7 @@ use lib.ListN.{take, drop, take-append-drop}
 use borrow.Author.Tests.{eqb-true, eq-eqb, ne-eqb, le-leb, not-true}
 use Rattle.numbers.specs.Numbers.{distance}
 use Rattle.numbers.specs.Laws.{and-left, and-right, and-intro}
+use Rattle.numbers.specs.Counts.{none, more}
 use Rattle.table.specs.Table.{minRepTime, actPosCov, rate}
 use Rattle.event.specs.declared.Event.{Event}
 use Rattle.event.specs.Event.{eventIn}
@@ -15,7 +16,7 @@ use Rattle.rules.specs.Report.{changed, Sent, silent, sent, reportDue}
 use Rattle.answer.specs.Answer.{numberOf}
 use Rattle.history.specs.Readings.{isTick, isRestart, parameters, targetFrom, positionIn, statusIn, judgement}
 use Rattle.history.specs.Claim as C
-use Rattle.history.specs.Claim.{Moment, Trace, Quiet, none, more, Holds, Claim}
+use Rattle.history.specs.Claim.{Moment, Trace, Quiet, Holds, Claim}
 
 -- the sentences by name, at the latest record of a trace; for `spacing` the number of records between the two reports, for
 -- `waiting` that of the row

@@ -1,29 +1,27 @@
 -- That spacing, waiting and due are not empty: lists on which the right drive meets all that they suppose.
 use mathlib.Core.Path.{_≡_, refl}
-use mathlib.Core.Bool.{Bool, true, false}
+use mathlib.Core.Bool.{true, false}
 use mathlib.Core.List.{List, [], _∷_, _++_}
-use Prim.Native.Nat.{ℕ, _+_}
+use Prim.Native.Nat.{ℕ}
 use lib.ListN.{replicate}
+use Rattle.numbers.specs.Counts.{none, more}
 use Rattle.table.specs.Table as Table
-use Rattle.rules.specs.Report.{sent, changed, reportDue}
+use Rattle.rules.specs.Report.{sent, changed}
 use Rattle.answer.specs.declared.Answer.{Answer}
 use Rattle.answer.specs.declared.Answer.the-variants.{Done, Tick, Report}
 use Rattle.damper.specs.Step.{stepOf}
 use Rattle.history.specs.Readings.{isTick, positionIn, statusIn}
 use Rattle.history.specs.Log.{entry, logIn}
-use Rattle.history.specs.Claim.{Moment, Trace, accepted, acceptedAs, reports, ticksIn, Quiet, none, more, lastReport, since, inForce, traceOf, logOf}
+use Rattle.history.specs.Claim.{Moment, Trace, accepted, acceptedAs, reports, ticksIn, Quiet, lastReport, dueIn, inForce, traceOf, logOf}
 use Rattle.refuted.specs.Events.{tick, setpoint, minRepTime}
 use Rattle.refuted.specs.Closed.{computation}
 
 abbrev pub moment : List ℕ → Answer → ℕ → Moment
 moment s a p = record { bytes = s; answer = a; position = p }
 
--- MinRepTime in force at a record, and whether `Due` has it report
+-- MinRepTime in force at a record
 abbrev pub wait : Moment → Trace → ℕ
 wait m t = Table.minRepTime (inForce m t)
-
-abbrev pub isDue : Moment → Trace → Bool
-isDue m t = let h = accepted (m ∷ t) in reportDue (inForce m t) (since t + 1) (positionIn h) (statusIn h) (lastReport t)
 
 -- MinRepTime 2, two ticks, a setpoint, two ticks: the second tick and the last one report
 abbrev pub twice : List (List ℕ)
@@ -50,7 +48,7 @@ pub silentWait : (m : Moment) × (t row old : Trace) × (traceOf stepOf (minRepT
     × (acceptedAs isTick m t ≡ true) × (ticksIn row old ≡ wait m t) × Quiet old row
     × ((p : ℕ) × (lastReport (m ∷ t) ≡ sent p (statusIn (accepted (m ∷ t))))
     × (changed (Table.actPosCov (inForce m t)) (positionIn (accepted (m ∷ t))) p ≡ false))
-    × (isDue m t ≡ false)
+    × (dueIn m t ≡ false)
 unfolding computation
 silentWait =
     let silent = moment tick (Tick 0 0 0) 0 in
@@ -60,7 +58,7 @@ silentWait =
 -- A wait that ends in a report, and `Due` of a tick that is due: MinRepTime 2 and two ticks, the last one reports.
 pub reportedWait : (m : Moment) × (row old : Trace) × (traceOf stepOf (minRepTime 2 ∷ replicate 2 tick) ≡ m ∷ (row ++ old))
     × (acceptedAs isTick m (row ++ old) ≡ true) × (ticksIn (m ∷ row) old ≡ wait m (row ++ old)) × Quiet old row × (reports m ≡ true)
-    × (isDue m (row ++ old) ≡ true)
+    × (dueIn m (row ++ old) ≡ true)
 unfolding computation
 reportedWait = (
   moment tick (Report 0 0 0 32) 0,

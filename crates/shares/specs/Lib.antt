@@ -1,7 +1,13 @@
--- A hall's calls seen from each of its drives: its own share of them decides its record and its answers, demand 3 holds of it, a host
--- reads its reports off the numbers of the hall ticks, and the shift page shows what the share says.
+-- A hall's calls seen from each of its drives: its own share of them decides its record and its answers, the sentences of demand 3 hold of
+-- it, of that about waiting what the quota leaves, a host reads its reports off the numbers of the hall ticks, the shift page shows what the
+-- share says, and no report that stays due waits longer than as many hall ticks as the hall has drives.
 pub mod Shares
+pub mod Bound
+pub mod BoundWitnesses
+pub mod SharedLog
 pub mod Theorem
+pub mod Waiting
+pub mod WaitingWitness
 pub mod HostLog
 pub mod PageRead
 pub mod Witnesses

@@ -1,18 +1,18 @@
 -- For every step, every row of drives and every list of calls: a place ends with the drive, and its turns got the answers, that the
 -- list of its share gives to the drive that stood there.
-use mathlib.Core.Path.{_≡_, refl, sym, ap, _∙_}
+use mathlib.Core.Path.{_≡_, refl, ap, _∙_}
 use mathlib.Core.List.{List, [], _∷_}
 use Prim.Native.Nat.{ℕ, _<_}
 use lib.Dec.{eqb}
 use lib.ListN.{length}
-use lib.Seq.{getD-set-same, getD-set-other, lt-length-set}
+use lib.Seq.{lt-length-set}
 use borrow.Author.Tests.{eqb-true, eqb-false, ne-eqb}
 use Rattle.numbers.specs.Laws.{cases}
 use Rattle.damper.specs.declared.Drive.{Drive}
-use Rattle.damper.specs.Record.{freshDrive}
-use Rattle.damper.specs.Carry.{Step, outcomes, driveAfter, answersIn}
-use Rattle.hall.specs.Hall.{Call, callRefusal, Turn, turnsOf, at, rowWith, turned, rowAfter, answersAfter, turnsIn, hallAfter, hallTurned, sharedOut, ownOf, share, own}
+use Rattle.damper.specs.Carry.{StepOn, outcomes, driveAfter, answersIn}
+use Rattle.hall.specs.Hall.{Call, callRefusal, Given, Turn, turnsOf, at, rowWith, turned, rowAfter, answersAfter, turnsIn, hallAfter, hallTurned, sharedOut, ownOf, share, own}
 use Rattle.hall.specs.Laws.{row-append, turned-append, row-length}
+use Rattle.hall.specs.TickLaws.{here, elsewhere}
 
 -- a call that is refused itself has no turns
 refused-turns : (n : ℕ) (c : Call) → (callRefusal n c ≡ 0 → ⊥) → turnsOf n c ≡ []
@@ -24,7 +24,7 @@ pub refused-share : (n : ℕ) (c : Call) (cs : List Call) (i : ℕ) → (callRef
 unfolding turnsIn
 refused-share n c cs i r = rw (refused-turns n c r)
 
-module _ (step : Step) where
+module _ (step : StepOn Given) where
   -- and there "nothing is touched": neither the drives nor the answer row
   pub refused-row : (row : List Drive) (c : Call) (cs : List Call) → (callRefusal (length row) c ≡ 0 → ⊥)
       → hallAfter step row (c ∷ cs) ≡ hallAfter step row cs
@@ -54,13 +54,6 @@ module _ (step : Step) where
       let ts = turnsOf (length row) c in
       rw (turned-append step row ts (turnsIn (length row) cs), hall-turned (rowAfter step row ts) cs, row-length step row ts)
 
-  -- what the row after one turn has at the turn's place, and at another
-  here : (row : List Drive) (t : Turn) (i : ℕ) → i < length row → t .place ≡ i → at (rowWith step row t) i ≡ step (at row i) (t .bytes) .drive
-  here row t i h e = rw e (getD-set-same row i _ freshDrive h)
-
-  pub elsewhere : (row : List Drive) (t : Turn) (i : ℕ) → (t .place ≡ i → ⊥) → at (rowWith step row t) i ≡ at row i
-  elsewhere row t i n = getD-set-other row (t .place) i _ freshDrive (λ e. n (sym e))
-
   pub turns-drive : (row : List Drive) (ts : List Turn) (i : ℕ) → i < length row
       → at (rowAfter step row ts) i ≡ driveAfter (at row i) (outcomes step (at row i) (sharedOut i ts))
   unfolding rowAfter sharedOut outcomes driveAfter
@@ -68,8 +61,8 @@ module _ (step : Step) where
   turns-drive row (t ∷ ts) i h =
       turns-drive (rowWith step row t) ts i (lt-length-set row (t .place) _ h)
       ∙ cases (eqb (t .place) i)
-      (λ q. rw (q, here row t i h (eqb-true _ i q)))
-      (λ q. rw (q, elsewhere row t i (eqb-false _ i q)))
+      (λ q. rw (q, here step row t i h (eqb-true _ i q)))
+      (λ q. rw (q, elsewhere step row t i (eqb-false _ i q)))
 
   turns-answers : (row : List Drive) (ts : List Turn) (i : ℕ) → i < length row
       → ownOf i ts (turned step row ts) ≡ outcomes step (at row i) (sharedOut i ts)
@@ -78,8 +71,8 @@ module _ (step : Step) where
   turns-answers row (t ∷ ts) i h =
       let rest = turns-answers (rowWith step row t) ts i (lt-length-set row (t .place) _ h) in
       cases (eqb (t .place) i)
-      (λ q. rw (q, rest, here row t i h (eqb-true _ i q), eqb-true _ i q))
-      (λ q. rw (q, rest, elsewhere row t i (eqb-false _ i q)))
+      (λ q. rw (q, rest, here step row t i h (eqb-true _ i q), eqb-true _ i q))
+      (λ q. rw (q, rest, elsewhere step row t i (eqb-false _ i q)))
 
   -- The drive at a place is the one that its share leaves from the drive that stood there.
   pub share-drive : (row : List Drive) (cs : List Call) (i : ℕ) → i < length row

@@ -1,34 +1,224 @@
 -- "What was promised of one drive's list of events now holds, for each drive that was fresh at first, of its own share of the hall's
--- calls": whatever the other drives were, and whatever the calls list and have room for.
-use mathlib.Core.Path.{_≡_, _∙_}
-use mathlib.Core.List.{List, []}
-use Prim.Native.Nat.{ℕ, _<_}
+-- calls": whatever the other drives were, and whatever the calls list and have room for. Of waiting, W-204 leaves what its quota allows: a
+-- hall tick sends only drives that are due, and "a last tick that breaks that limb always finds its drive due".
+use mathlib.Core.Path.{_≡_, refl, sym, _∙_}
+use mathlib.Core.Bool.{Bool, true, false, not, _&&_, _||_}
+use mathlib.Core.List.{List, [], _∷_, _++_, map}
+use Prim.Native.Nat.{ℕ, _+_, _<_}
+use native.Mathlib.Omega.{arith}
 use native.Mathlib.Nat.{zero-add}
+use lib.Dec.{ltb, eqb}
 use lib.ListN.{length}
+use borrow.Author.Tests.{eqb-true, eqb-false, not-true}
+use Rattle.numbers.specs.Laws.{cases, passed, and-left, and-right, and-intro, or-left}
+use Rattle.numbers.specs.Places.{allBelow, implies}
+use Rattle.numbers.specs.PlaceLaws.{implied, all-at}
+use Rattle.event.specs.Event.{eventIn, readOf, formOf, dataRefusal, recordRefusal}
+use Rattle.event.specs.Laws.{admitted}
+use Rattle.rules.specs.Report.{silent}
+use Rattle.answer.specs.Answer.{isReport}
+use Rattle.rules.specs.Refusal.{stateRefusal, refusal}
+use Rattle.rules.specs.RefusalLaws.{refusal-passed}
 use Rattle.damper.specs.declared.Drive.{Drive}
 use Rattle.damper.specs.Record.{freshDrive}
-use Rattle.damper.specs.Step.{stepOf}
-use Rattle.hall.specs.Hall.{Call, at, share, own}
-use Rattle.history.specs.Log.{logIn}
-use Rattle.history.specs.Claim.{Trace, Claim, traceOn, reportsFrom}
-use Rattle.history.specs.Theorem.{demand-3, trace-length}
-use Rattle.history.specs.LogLaws.{log-read}
-use Rattle.shares.specs.Shares.{share-answers}
+use Rattle.damper.specs.WellFormed.{wellFormed}
+use Rattle.damper.specs.Step.{tickWith, applied, refusalOf, stepOf}
+use Rattle.damper.specs.Laws.{refusal-none}
+use Rattle.damper.specs.Carry.{outcomes, driveAfter}
+use Rattle.invariant.specs.Effects.{report-after, step-accepted, step-refused, refusal-wf}
+use Rattle.hall.specs.Hall.{Call, give, tick, badRow, badNumber, isTick, badEvent, tickRefusal, callRefusal, Given, bytes, hallTick, turn, tickBytes, bytesIn, turnsOf, at, rowAfter, turnsIn, hallAfter, sharedOut, share, own}
+use Rattle.hall.specs.Quota.{dueNow, hallTicked, hallStep, allowed, allowedCall, allowedCalls}
+use Rattle.hall.specs.Laws.{row-length}
+use Rattle.history.specs.Readings.{judgement}
+use Rattle.history.specs.Claim.{Moment, Trace, momentOf, accepted, reportIn, Waiting, dueIn, HallHolds, HallClaim, traceOn, reportsFrom}
+use Rattle.history.specs.Waits.{silent-in}
+use Rattle.history.specs.Facts.{Good, Facts, due-read, facts-tick, facts-wait}
+use Rattle.history.specs.Theorem.{facts, hall-holds, fresh-good}
+use Rattle.shares.specs.Shares.{turns-drive, share-drive, share-answers}
+use Rattle.shares.specs.Bound.{one-here, shared-append}
+use Rattle.shares.specs.SharedLog.{sharedLogFrom, sharedLog}
 
--- the trace of the drive at place `i`, built from the hall's own turns: their bytes, their answers and the positions that they leave
+-- the trace of the drive at place `i`, built from the hall's own turns: what they give, their answers and the positions that they leave
 abbrev pub shareTrace : List Drive → ℕ → List Call → Trace
-shareTrace row i cs = traceOn [] (share (length row) i cs) (own stepOf row i cs)
+shareTrace row i cs = traceOn [] (map bytesIn (share (length row) i cs)) (own hallStep row i cs)
 
--- Demand 3 holds of it.
-pub share-demand-3 : (row : List Drive) (cs : List Call) (i : ℕ) → i < length row → at row i ≡ freshDrive → Claim (shareTrace row i cs)
-share-demand-3 row cs i h fresh = rw (share-answers stepOf row cs i h, fresh) (demand-3 (share (length row) i cs))
+-- What a hall gives a drive: no event record that is a tick, and of hall ticks only those that find the drive due send a report.
+unfoldable pub fitting : Drive → List Given → Bool
+fitting d [] = true
+fitting d (bytes s ∷ gs) = not (isTick s) && fitting (hallStep d (bytes s) .drive) gs
+fitting d (hallTick sent ∷ gs) = implies sent (dueNow d) && fitting (hallStep d (hallTick sent) .drive) gs
 
--- The drive's reports are those that its share alone decides, each numbered by its place in the share.
-pub share-log : (row : List Drive) (cs : List Call) (i : ℕ) → i < length row → at row i ≡ freshDrive
-    → reportsFrom 0 (own stepOf row i cs) ≡ logIn (share (length row) i cs)
-share-log row cs i h fresh = rw (share-answers stepOf row cs i h, fresh) (log-read (share (length row) i cs))
+fitting-append : (d : Drive) (gs hs : List Given) → fitting d gs ≡ true → fitting (driveAfter d (outcomes hallStep d gs)) hs ≡ true
+    → fitting d (gs ++ hs) ≡ true
+unfolding fitting outcomes driveAfter
+fitting-append d [] hs p q = q
+fitting-append d (bytes s ∷ gs) hs p q =
+    and-intro (and-left (not (isTick s)) _ p) (fitting-append (hallStep d (bytes s) .drive) gs hs (and-right (not (isTick s)) _ p) q)
+fitting-append d (hallTick sent ∷ gs) hs p q =
+    and-intro (and-left (implies sent (dueNow d)) _ p)
+    (fitting-append (hallStep d (hallTick sent) .drive) gs hs (and-right (implies sent (dueNow d)) _ p) q)
+
+-- an accepted event call gives no tick
+pub no-tick : (n : ℕ) (list s : List ℕ) (room : ℕ) → callRefusal n (give list s room) ≡ 0 → isTick s ≡ false
+unfolding callRefusal
+no-tick n list s room e =
+    let u = passed (badNumber n list) 15 _ (passed (badRow n) 14 _ e (omega arith) .1) (omega arith) in
+    let m = passed (badEvent list s room) 16 0 (u .1) (omega arith) .0 in
+    or-left (isTick s) _ (or-left (isTick s || ltb 64 (length list)) _ m)
+
+events-fit : (i : ℕ) (s : List ℕ) → isTick s ≡ false → (d : Drive) (list : List ℕ) → fitting d (sharedOut i (map (turn (bytes s)) list)) ≡ true
+unfolding fitting sharedOut
+events-fit i s t d [] = refl
+events-fit i s t d (j ∷ list) =
+    cases (eqb j i) (λ q. rw (q, t) (events-fit i s t (stepOf d s .drive) list)) (λ q. rw q (events-fit i s t d list))
+
+call-fits : (row : List Drive) (i : ℕ) → i < length row → (c : Call) → allowedCall row c ≡ true
+    → fitting (at row i) (sharedOut i (turnsOf (length row) c)) ≡ true
+unfolding turnsOf callRefusal allowed fitting sharedOut
+call-fits row i b (give list s room) a =
+    cases (eqb (callRefusal (length row) (give list s room)) 0)
+    (λ q. rw q (events-fit i s (no-tick (length row) list s room (eqb-true _ 0 q)) (at row i) list))
+    (λ q. rw q)
+call-fits row i b (tick quota sends room) a =
+    let n = length row in
+    cases (eqb (tickRefusal n quota room) 0)
+    (λ q.
+    let only = and-left (allBelow n (λ x. implies (sends x) (dueNow (at row x)))) _ (rw q at a) in
+    rw (q, one-here sends i 0 i n b (omega arith))
+    (and-intro (all-at (λ x. implies (sends x) (dueNow (at row x))) n only i b) refl))
+    (λ q. rw q)
+
+pub share-fits : (cs : List Call) (row : List Drive) (i : ℕ) → i < length row → allowedCalls row cs ≡ true
+    → fitting (at row i) (share (length row) i cs) ≡ true
+unfolding turnsIn sharedOut allowedCalls fitting
+share-fits [] row i b a = refl
+share-fits (c ∷ cs) row i b a =
+    let n = length row in
+    let ts = turnsOf n c in
+    let row′ = rowAfter hallStep row ts in
+    let size : length row′ ≡ n = row-length hallStep row ts in
+    let later = share-fits cs row′ i (rw size b) (and-right (allowedCall row c) _ a) in
+    rw (shared-append i ts (turnsIn n cs))
+    (fitting-append (at row i) (sharedOut i ts) (share n i cs) (call-fits row i b c (and-left (allowedCall row c) _ a))
+    (rw (size, turns-drive hallStep row ts i b) at later))
+
+-- "Only accepted ticks count", and a hall tick is one: no well-formed drive refuses it.
+pub tick-accepted : (t : Trace) → judgement (accepted t) tickBytes ≡ 0
+unfolding judgement refusal recordRefusal dataRefusal formOf stateRefusal
+tick-accepted t = refl
+
+-- What one thing given does to a drive that agrees with its trace.
+module _ (d : Drive) (t : Trace) (g : Good d t) where
+  pub facts-hall : (sent : Bool) → implies sent (dueNow d) ≡ true → Facts d t tickBytes (hallTicked sent d)
+  unfolding hallTicked dueNow
+  facts-hall sent q =
+      rw (g .wf)
+      (facts-wait (facts-tick d t tickBytes sent g (tick-accepted t) refl (λ e. and-right (wellFormed d) _ (implied sent (dueNow d) q e))) _)
+
+-- The claim and the agreement of drive and trace, over all that a drive is given.
+claims : (gs : List Given) (d : Drive) (t : Trace) → Good d t → fitting d gs ≡ true → HallClaim t
+    → HallClaim (traceOn t (map bytesIn gs) (outcomes hallStep d gs))
+unfolding outcomes traceOn fitting
+claims [] d t g q c = c
+claims (bytes s ∷ gs) d t g q c =
+    let o = stepOf d s in
+    let f = facts d t s g in
+    claims gs (o .drive) (momentOf s o ∷ t) (f .good) (and-right (not (isTick s)) _ q) (hall-holds d t s o f, c)
+claims (hallTick sent ∷ gs) d t g q c =
+    let o = hallTicked sent d in
+    let f = facts-hall d t g sent (and-left (implies sent (dueNow d)) _ q) in
+    claims gs (o .drive) (momentOf tickBytes o ∷ t) (f .good) (and-right (implies sent (dueNow d)) _ q) (hall-holds d t tickBytes o f, c)
+
+goods : (gs : List Given) (d : Drive) (t : Trace) → Good d t → fitting d gs ≡ true
+    → Good (driveAfter d (outcomes hallStep d gs)) (traceOn t (map bytesIn gs) (outcomes hallStep d gs))
+unfolding outcomes driveAfter traceOn fitting
+goods [] d t g q = g
+goods (bytes s ∷ gs) d t g q =
+    let o = stepOf d s in
+    goods gs (o .drive) (momentOf s o ∷ t) (facts d t s g .good) (and-right (not (isTick s)) _ q)
+goods (hallTick sent ∷ gs) d t g q =
+    let o = hallTicked sent d in
+    let f = facts-hall d t g sent (and-left (implies sent (dueNow d)) _ q) in
+    goods gs (o .drive) (momentOf tickBytes o ∷ t) (f .good) (and-right (implies sent (dueNow d)) _ q)
+
+module _ (row : List Drive) (cs : List Call) (i : ℕ) (h : i < length row) (fresh : at row i ≡ freshDrive) (a : allowedCalls row cs ≡ true) where
+  fits : fitting freshDrive (share (length row) i cs) ≡ true
+  fits = rw (← fresh) (share-fits cs row i h a)
+
+  -- The sentences of demand 3 hold of it, that about waiting where step 4 would not report.
+  pub share-claim : HallClaim (shareTrace row i cs)
+  share-claim = rw (share-answers hallStep row cs i h, fresh) (claims (share (length row) i cs) freshDrive [] fresh-good fits tt)
+
+  -- The drive agrees with it.
+  pub share-good : Good (at (hallAfter hallStep row cs) i) (shareTrace row i cs)
+  share-good =
+      rw (share-answers hallStep row cs i h, share-drive hallStep row cs i h, fresh)
+      (goods (share (length row) i cs) freshDrive [] fresh-good fits)
+
+-- "a last tick that breaks that limb always finds its drive due": of any trace, where the sentence about waiting is broken, step 4 would
+-- report; and of a drive that agrees with its trace, the hall tick found it due
+pub broken-due : (m : Moment) (t : Trace) → HallHolds m t → (Waiting m t → ⊥) → dueIn m t ≡ true
+broken-due m t h b = cases (dueIn m t) (λ q. q) (λ q. absurd (b (h .waiting q)))
+
+pub finds-due : (d : Drive) (t : Trace) → Good d t → (sent : Bool) → implies sent (dueNow d) ≡ true
+    → (Waiting (momentOf tickBytes (hallTicked sent d)) t → ⊥) → dueNow d ≡ true
+unfolding dueNow
+finds-due d t g sent q b =
+    let o = hallTicked sent d in
+    let h = hall-holds d t tickBytes o (facts-hall d t g sent q) in
+    and-intro (g .wf) (due-read d t tickBytes g (tick-accepted t) refl o ∙ broken-due (momentOf tickBytes o) t h b)
 
 -- The trace has as many records as the share, whatever the drive was.
+trace-grows : (gs : List Given) (d : Drive) (t : Trace) → length (traceOn t (map bytesIn gs) (outcomes hallStep d gs)) ≡ length t + length gs
+unfolding outcomes traceOn
+trace-grows [] d t = omega arith
+trace-grows (g ∷ gs) d t = let o = hallStep d g in trace-grows gs (o .drive) (momentOf (bytesIn g) o ∷ t) ∙ omega arith
+
 pub share-whole : (row : List Drive) (cs : List Call) (i : ℕ) → i < length row → length (shareTrace row i cs) ≡ length (share (length row) i cs)
 share-whole row cs i h =
-    rw (share-answers stepOf row cs i h) (trace-length stepOf (share (length row) i cs) (at row i) [] ∙ zero-add (length (share (length row) i cs)))
+    rw (share-answers hallStep row cs i h) (trace-grows (share (length row) i cs) (at row i) [] ∙ zero-add (length (share (length row) i cs)))
+
+-- an event other than a tick is answered by no report
+pub quiet : (d : Drive) (s : List ℕ) → isTick s ≡ false → reportIn (stepOf d s .answer) ≡ silent
+unfolding readOf
+quiet d s t =
+    cases (eqb (refusalOf d s) 0)
+    (λ e.
+    let z = eqb-true _ 0 e in
+    let f = refusal-none d s z in
+    let r = refusal-passed s _ _ _ _ _ (sym (refusal-wf d s (f .0)) ∙ z) .0 in
+    let k : eqb (eventIn s .kind) 1 ≡ false = rw r at t in
+    rw (step-accepted d s z) (silent-in (applied d (eventIn s) .answer) (report-after d (eventIn s) (admitted (eventIn s) (f .2) .kind) ∙ rw k)))
+    (λ e. rw (step-refused d s (eqb-false _ 0 e)))
+
+-- a hall tick is answered by a report just where it sends one
+pub sent-reports : (d : Drive) (sent : Bool) → wellFormed d ≡ true → isReport (hallTicked sent d .answer) ≡ sent
+unfolding hallTicked tickWith
+sent-reports d true w = rw w
+sent-reports d false w = rw w
+
+logs : (gs : List Given) (d : Drive) (t : Trace) (n : ℕ) → Good d t → fitting d gs ≡ true
+    → reportsFrom n (outcomes hallStep d gs) ≡ sharedLogFrom n (accepted t) gs
+unfolding outcomes reportsFrom sharedLogFrom accepted fitting
+logs [] d t n g q = refl
+logs (bytes s ∷ gs) d t n g q =
+    let o = stepOf d s in
+    rw (quiet d s (not-true (isTick s) (and-left (not (isTick s)) _ q)))
+    (logs gs (o .drive) (momentOf s o ∷ t) (n + 1) (facts d t s g .good) (and-right (not (isTick s)) _ q))
+logs (hallTick true ∷ gs) d t n g q =
+    let o = hallTicked true d in
+    let f = facts-hall d t g true (and-left (dueNow d) _ q) in
+    let rest = logs gs (o .drive) (momentOf tickBytes o ∷ t) (n + 1) (f .good) (and-right (dueNow d) _ q) in
+    rw (f .content (sent-reports d true (g .wf)), rest, tick-accepted t)
+logs (hallTick false ∷ gs) d t n g q =
+    let o = hallTicked false d in
+    let f = facts-hall d t g false refl in
+    let rest = logs gs (o .drive) (momentOf tickBytes o ∷ t) (n + 1) (f .good) q in
+    rw (silent-in (o .answer) (sent-reports d false (g .wf)), rest, tick-accepted t)
+
+-- The drive's reports are those hall ticks of its share that send, each numbered by its place in the share.
+pub share-log : (row : List Drive) (cs : List Call) (i : ℕ) → i < length row → at row i ≡ freshDrive → allowedCalls row cs ≡ true
+    → reportsFrom 0 (own hallStep row i cs) ≡ sharedLog (share (length row) i cs)
+unfolding accepted
+share-log row cs i h fresh a =
+    rw (share-answers hallStep row cs i h, fresh) (logs (share (length row) i cs) freshDrive [] 0 fresh-good (fits row cs i h fresh a))

@@ -1,23 +1,27 @@
 -- A hall of three by computation: a fresh drive, one that is not well formed and one that is open, under calls with repeats,
--- refused ones and two hall ticks.
+-- refused ones and three hall ticks, of which each of the first two holds back a report that is due.
 use mathlib.Core.Path.{_≡_, refl}
+use mathlib.Core.Bool.{Bool, true, false, _||_}
 use mathlib.Core.List.{List, [], _∷_, _++_, map}
 use Prim.Native.Nat.{ℕ, _+_, _*_}
-use lib.ListN.{length, replicate, set}
+use lib.Dec.{eqb}
+use lib.ListN.{length, replicate, set, take}
+use Rattle.numbers.specs.Places.{allBelow, countBelow}
 use Rattle.table.specs.Table.{freshValues}
 use Rattle.event.specs.Event.{readOf}
 use Rattle.rules.specs.Commands.{noCommands, interlocked}
 use Rattle.rules.specs.Report.{sent}
 use Rattle.answer.specs.declared.Answer.{Answer}
-use Rattle.answer.specs.declared.Answer.the-variants.{Done, Par, Report}
+use Rattle.answer.specs.declared.Answer.the-variants.{Done, Par, Tick, Report}
 use Rattle.damper.specs.declared.Drive.{Drive}
 use Rattle.damper.specs.declared.Outcome.{Outcome}
 use Rattle.damper.specs.Record.{drive, last, noRun, freshDrive, withPosition}
-use Rattle.damper.specs.Step.{outcome, stepOf}
-use Rattle.damper.specs.Carry.{Step, answersIn}
+use Rattle.damper.specs.Step.{outcome}
+use Rattle.damper.specs.Carry.{StepOn, answersIn}
 use Rattle.damper.specs.Closed as Closed
 use Rattle.hall.specs.Hall as H
-use Rattle.hall.specs.Hall.{Call, give, badNumber, callRefusal, turnsOf, at, turned, rowAfter, answersAfter, turnsIn, hallAfter, hallTurned, sharedOut, ownOf, share, own}
+use Rattle.hall.specs.Hall.{Call, give, badNumber, callRefusal, Given, bytes, hallTick, bytesIn, turnsOf, at, turned, rowAfter, answersAfter, turnsIn, hallAfter, hallTurned, sharedOut, ownOf, share, own}
+use Rattle.hall.specs.Quota.{dueNow, hallTicked, hallStep, longest, allowed, allowedCalls}
 use Rattle.line.specs.Text.{text}
 use Rattle.line.specs.Line.{decimal, digitsWithin}
 use Rattle.shift.specs.Shift.{right, left, binary, driveLine, linesFrom, pageRefusal, pageAfter}
@@ -25,12 +29,13 @@ use Rattle.history.specs.Readings.{historyOf}
 use Rattle.history.specs.Closed.{readings}
 use Rattle.history.specs.Log.{entry}
 use Rattle.history.specs.Claim.{reportsFrom}
+use Rattle.shares.specs.SharedLog.{sharedLogFrom, sharedLog}
 use Rattle.shares.specs.HostLog.{Lent, hostLog}
 use Rattle.shares.specs.PageRead.{lineIn}
 
 -- `unfolding computation` opens drive and hall, so that a list of calls computes
 unfoldable computation : Unit {0}
-unfolding Closed.computation readOf answersIn badNumber callRefusal turnsOf turned rowAfter answersAfter turnsIn hallAfter hallTurned sharedOut ownOf reportsFrom hostLog
+unfolding Closed.computation readOf allBelow countBelow answersIn badNumber callRefusal turnsOf turned rowAfter answersAfter turnsIn hallAfter hallTurned sharedOut ownOf dueNow hallTicked longest allowed allowedCalls reportsFrom hostLog
 computation = tt
 
 -- the event records, as bytes
@@ -49,14 +54,18 @@ everyTick = 0x5a ∷ 0xc3 ∷ 8 ∷ 117 ∷ 0 ∷ 1 ∷ []
 
 -- forcing 4, which no event sets
 abbrev broken : Drive
-broken = drive 0 freshValues (interlocked noCommands 0 4) 0 noRun 0 (last 0 0 0)
+broken = drive 0 freshValues (interlocked noCommands 0 4) 0 noRun 0 (last 0 0 0) 0
 
 -- at position 200, with Rate 128, so that a run takes two ticks
 abbrev opened : Drive
-opened = drive 200 (set freshValues 9 128) noCommands 0 noRun 0 (last 0 0 0)
+opened = drive 200 (set freshValues 9 128) noCommands 0 noRun 0 (last 0 0 0) 0
 
 abbrev hall : List Drive
 hall = freshDrive ∷ broken ∷ opened ∷ []
+
+-- of the places of a hall tick, just this one
+abbrev only : ℕ → ℕ → Bool
+only j i = eqb i j
 
 abbrev calls : List Call
 calls =
@@ -69,39 +78,50 @@ calls =
     -- a tick is no event for a list, and two answers have no room in a row of one
     ∷ give (0 ∷ []) tick 1
     ∷ give (0 ∷ 2 ∷ []) calibration 1
-    ∷ H.tick 3
-    -- nor three in a row of two
-    ∷ H.tick 2
-    ∷ H.tick 5
+    -- drives 0 and 2 are due, neither has waited: the lower number goes
+    ∷ H.tick 1 (only 0) 3
+    -- three numbers have no room in a row of two, and a quota is at least 1; whom they name does not matter
+    ∷ H.tick 2 (λ i. true) 2
+    ∷ H.tick 0 (λ i. true) 3
+    -- both are due again, and drive 2 waited longer
+    ∷ H.tick 1 (only 2) 5
+    -- both once more, and both may go
+    ∷ H.tick 2 (λ i. only 0 i || only 2 i) 3
     ∷ []
 
 -- which of them are refused
-pub refusals : map (callRefusal 3) calls ≡ 0 ∷ 0 ∷ 15 ∷ 0 ∷ 0 ∷ 16 ∷ 16 ∷ 0 ∷ 16 ∷ 0 ∷ []
+pub refusals : map (callRefusal 3) calls ≡ 0 ∷ 0 ∷ 15 ∷ 0 ∷ 0 ∷ 16 ∷ 16 ∷ 0 ∷ 16 ∷ 18 ∷ 0 ∷ 0 ∷ []
 unfolding computation
 refusals = refl
 
+-- the hall ticks send what they may
+pub allowing : allowedCalls hall calls ≡ true
+unfolding computation
+allowing = refl
+
 -- the three shares: a repeat counts twice, a refused call not at all
-pub shares : (share 3 0 calls ≡ everyTick ∷ everyTick ∷ setpoint 128 ∷ setpoint 128 ∷ tick ∷ tick ∷ [])
-    × (share 3 1 calls ≡ setpoint 7 ∷ tick ∷ tick ∷ [])
-    × (share 3 2 calls ≡ everyTick ∷ setpoint 128 ∷ calibration ∷ calibration ∷ tick ∷ tick ∷ [])
+pub shares : (share 3 0 calls ≡ map bytes (everyTick ∷ everyTick ∷ setpoint 128 ∷ setpoint 128 ∷ []) ++ map hallTick (true ∷ false ∷ true ∷ []))
+    × (share 3 1 calls ≡ bytes (setpoint 7) ∷ map hallTick (false ∷ false ∷ false ∷ []))
+    × (share 3 2 calls ≡ map bytes (everyTick ∷ setpoint 128 ∷ calibration ∷ calibration ∷ []) ++ map hallTick (false ∷ true ∷ true ∷ []))
 unfolding computation
 shares = (refl, refl, refl)
 
 -- each call's answer row, which held 9 at each place before
 abbrev roomOf : Call → ℕ
 roomOf (give list s room) = room
-roomOf (H.tick room) = room
+roomOf (H.tick quota sends room) = room
 
 abbrev answerRows : List Drive → List Call → List (List ℕ)
 answerRows row [] = []
 answerRows row (c ∷ cs) =
-    answersAfter stepOf row c (replicate (roomOf c) 9) ∷ answerRows (rowAfter stepOf row (turnsOf (length row) c)) cs
+    answersAfter hallStep row c (replicate (roomOf c) 9) ∷ answerRows (rowAfter hallStep row (turnsOf (length row) c)) cs
 
 -- "65,536 + 256 × position + status for a report"
 abbrev report : ℕ → ℕ → ℕ
 report p s = 65536 + 256 * p + s
 
--- the fresh drive reports 5 and 10, the open one 72 in calibration and then 0; the broken one is refused by 1
+-- the fresh drive reports 5, is held at 10 and reports 15; the open one is held at 72 in calibration, reports 0 and, its run being over,
+-- 128; the broken one is refused by 1
 pub answers : answerRows hall calls
     ≡ (0 ∷ 0 ∷ 0 ∷ [])
     ∷ (0 ∷ 0 ∷ 0 ∷ 9 ∷ [])
@@ -110,15 +130,25 @@ pub answers : answerRows hall calls
     ∷ (1 ∷ [])
     ∷ (9 ∷ [])
     ∷ (9 ∷ [])
-    ∷ (report 5 0 ∷ 1 ∷ report 72 4 ∷ [])
+    ∷ (report 5 0 ∷ 1 ∷ 0 ∷ [])
     ∷ (9 ∷ 9 ∷ [])
-    ∷ (report 10 0 ∷ 1 ∷ report 0 0 ∷ 9 ∷ 9 ∷ [])
+    ∷ (9 ∷ 9 ∷ 9 ∷ [])
+    ∷ (0 ∷ 1 ∷ report 0 0 ∷ 9 ∷ 9 ∷ [])
+    ∷ (report 15 0 ∷ 1 ∷ report 128 0 ∷ [])
     ∷ []
 unfolding computation
 answers = refl
 
+-- the waits after the first hall tick, the second and the third
+abbrev waitsAfter : ℕ → List ℕ
+waitsAfter k = map (λ (d : Drive). d .wait) (hallAfter hallStep hall (take k calls))
+
+pub waits : (waitsAfter 8 ≡ 0 ∷ 0 ∷ 1 ∷ []) × (waitsAfter 11 ≡ 1 ∷ 0 ∷ 0 ∷ []) × (waitsAfter 12 ≡ 0 ∷ 0 ∷ 0 ∷ [])
+unfolding computation
+waits = (refl, refl, refl)
+
 -- the broken drive keeps its record
-pub kept : at (hallAfter stepOf hall calls) 1 ≡ broken
+pub kept : at (hallAfter hallStep hall calls) 1 ≡ broken
 unfolding computation
 kept = refl
 
@@ -126,9 +156,9 @@ kept = refl
 abbrev standing : Drive → List ℕ
 standing d = d .position ∷ d .run .kind ∷ d .run .left ∷ []
 
--- the fresh drive is on its way to 128, the open one is closed and its run is over
-pub stand : (standing (at (hallAfter stepOf hall calls) 0) ≡ 10 ∷ 0 ∷ 0 ∷ [])
-    × (standing (at (hallAfter stepOf hall calls) 2) ≡ 0 ∷ 0 ∷ 0 ∷ [])
+-- the fresh drive is on its way to 128, the open one has come there from 0 and its run is over
+pub stand : (standing (at (hallAfter hallStep hall calls) 0) ≡ 15 ∷ 0 ∷ 0 ∷ [])
+    × (standing (at (hallAfter hallStep hall calls) 2) ≡ 128 ∷ 0 ∷ 0 ∷ [])
 unfolding computation
 stand = (refl, refl)
 
@@ -136,20 +166,21 @@ stand = (refl, refl)
 abbrev answersOf : List Outcome → List Answer
 answersOf os = map (λ (o : Outcome). o .answer) os
 
-pub owned : answersOf (own stepOf hall 0 calls) ≡ Done ∷ Done ∷ Done ∷ Done ∷ Report 5 1 1 0 ∷ Report 10 1 1 0 ∷ []
+pub owned : answersOf (own hallStep hall 0 calls) ≡ Done ∷ Done ∷ Done ∷ Done ∷ Report 5 1 1 0 ∷ Tick 10 1 1 ∷ Report 15 1 1 0 ∷ []
 unfolding computation
 owned = refl
 
--- its reports, numbered within its share
-pub log : reportsFrom 0 (own stepOf hall 0 calls) ≡ entry 5 5 0 ∷ entry 6 10 0 ∷ []
-unfolding computation
-log = refl
+-- its reports, numbered within its share, and read off it
+pub log : (reportsFrom 0 (own hallStep hall 0 calls) ≡ entry 5 5 0 ∷ entry 7 15 0 ∷ [])
+    × (sharedLog (share 3 0 calls) ≡ entry 5 5 0 ∷ entry 7 15 0 ∷ [])
+unfolding computation readings sharedLogFrom
+log = (refl, refl)
 
 -- a drive that no call names has no share, and keeps its record
 abbrev elsewhere : List Call
 elsewhere = give (0 ∷ 1 ∷ []) (setpoint 7) 2 ∷ []
 
-pub unnamed : (share 3 2 elsewhere ≡ []) × (at (hallAfter stepOf hall elsewhere) 2 ≡ opened)
+pub unnamed : (share 3 2 elsewhere ≡ []) × (at (hallAfter hallStep hall elsewhere) 2 ≡ opened)
 unfolding computation
 unnamed = (refl, refl)
 
@@ -158,12 +189,12 @@ unnamed = (refl, refl)
 abbrev calibrating : List ℕ → List Call
 calibrating list = give list calibration 2 ∷ []
 
-pub same : at (hallAfter stepOf hall (calibrating (0 ∷ 0 ∷ []))) 0 ≡ at (hallAfter stepOf hall (calibrating (0 ∷ []))) 0
+pub same : at (hallAfter hallStep hall (calibrating (0 ∷ 0 ∷ []))) 0 ≡ at (hallAfter hallStep hall (calibrating (0 ∷ []))) 0
 unfolding computation
 same = refl
 
-abbrev counting : Step
-counting d s = outcome (withPosition d (d .position + 1)) (Par (d .position))
+abbrev counting : StepOn Given
+counting d g = outcome (withPosition d (d .position + 1)) (Par (d .position))
 
 pub twice : (answersOf (own counting hall 0 (calibrating (0 ∷ 0 ∷ []))) ≡ Par 0 ∷ Par 1 ∷ [])
     × (at (hallAfter counting hall (calibrating (0 ∷ 0 ∷ []))) 0 .position ≡ 2)
@@ -171,22 +202,22 @@ unfolding computation
 twice = (refl, refl)
 
 -- What a host notes that lends rows with old reports in them: what its hall ticks report, also of a damper that is closed without
--- status, and nothing of the drive that is not well formed.
+-- status, and nothing of a report that is held back or of the drive that is not well formed.
 abbrev lent : List Lent
 lent = map (λ c. record { call = c; row = replicate (roomOf c) (report 7 1) }) calls
 
-pub hostLogs : (hostLog hall 0 lent ≡ sent 5 0 ∷ sent 10 0 ∷ [])
+pub hostLogs : (hostLog hall 0 lent ≡ sent 5 0 ∷ sent 15 0 ∷ [])
     × (hostLog hall 1 lent ≡ [])
-    × (hostLog hall 2 lent ≡ sent 72 4 ∷ sent 0 0 ∷ [])
+    × (hostLog hall 2 lent ≡ sent 0 0 ∷ sent 128 0 ∷ [])
 unfolding computation
 hostLogs = (refl, refl, refl)
 
 -- The shift page afterwards, with a byte behind its lines; and the line of the fresh drive, read off its share.
-pub page : pageAfter (hallAfter stepOf hall calls) (replicate 88 9)
-    ≡ text " 0  10   4 bus      00000000\n 1 --- --- -------- --------\n 2   0   0 bus      00000000\n" ++ (9 ∷ [])
+pub page : pageAfter (hallAfter hallStep hall calls) (replicate 88 9)
+    ≡ text " 0  15   6 bus      00000000\n 1 --- --- -------- --------\n 2 128  50 bus      00000000\n" ++ (9 ∷ [])
 unfolding computation decimal digitsWithin right left binary driveLine linesFrom pageRefusal pageAfter
 page = refl
 
-pub line : lineIn 0 (historyOf (share 3 0 calls)) ≡ text " 0  10   4 bus      00000000\n"
+pub line : lineIn 0 (historyOf (map bytesIn (share 3 0 calls))) ≡ text " 0  15   6 bus      00000000\n"
 unfolding computation readings decimal digitsWithin right left binary
 line = refl

@@ -13,6 +13,8 @@ const OVERDUE: &str = "self.since >= self.params.get(Param::RepPer)";
 const IN_TIME: &str = "age <= self.params.get(Param::Timeout)";
 const RUN_LENGTH: &str = "255u16.div_ceil(rate) as u8";
 const CHANGE: &str = "100 * distance >= 255 * u32::from(self.params.get(Param::ActPosCov))";
+const ADVANCED: &str = "let (rank, report) = self.advance();";
+const SETPOINT: &str = "self.bus = Some(Setpoint { position, age: 0 }),";
 const TO_PERCENT: &str = "(100 * u16::from(position) + 127) / 255";
 
 const fn edit(name: &'static str, changes: &'static [(&'static str, &'static str)]) -> Edit {
@@ -118,6 +120,32 @@ pub const EDITS: &[Edit] = &[
     ),
     // No periodic report.
     edit("NeverPeriodic", &[(OVERDUE, "false")]),
+    // The wait of W-204, out of a single drive's list
+
+    // A restart keeps it.
+    edit(
+        "RestartKeepsWait",
+        &[(
+            "params: self.params, ..State::FRESH }",
+            "params: self.params, wait: self.wait, ..State::FRESH }",
+        )],
+    ),
+    // A tick counts it, clears it, or clears it where it reports.
+    edit(
+        "TickCountsWait",
+        &[(ADVANCED, "let (rank, report) = self.advance(); self.wait = one_more(self.wait);")],
+    ),
+    edit("TickClearsWait", &[(ADVANCED, "let (rank, report) = self.advance(); self.wait = 0;")]),
+    edit("ReportClearsWait", &[("self.since = 0;", "self.since = 0; self.wait = 0;")]),
+    // A setpoint clears it.
+    edit(
+        "SetpointClearsWait",
+        &[(SETPOINT, "{ self.bus = Some(Setpoint { position, age: 0 }); self.wait = 0; }")],
+    ),
+    // Well-formedness asks something of it.
+    edit("WaitAsked", &[("wait: r.wait,", "wait: if r.wait == u16::MAX { return None } else { r.wait },")]),
+    // A fresh drive has waited.
+    edit("FreshWaits", &[("wait: 0,", "wait: 1,")]),
     // Age and since go on from 65,535 to 0.
     edit("CountsWrap", &[("count.saturating_add(1)", "count.wrapping_add(1)")]),
     // A record with Low above High is taken as well formed.

@@ -5,10 +5,28 @@ use crate::Edit;
 const GIVE: &str = "for (&number, answer) in list.iter().zip(answers) {";
 const LISTED: &str = "row[number as usize]";
 const GIVEN: &str = "row[number as usize], event));";
-const TICK: &str = "for (drive, number) in row.iter_mut().zip(numbers) {";
-const TICKED: &str = "*number = tick_number(Model::give(drive, Ok(Event::Tick)));";
+const GIVING: &str = "*answer = answer_number(Model::give(&mut row[number as usize], event));";
+const TICK: &str = "for (i, (drive, number)) in row.iter_mut().zip(numbers).enumerate() {";
+const NOT_WELL_FORMED: &str = "Err(_) => 1,";
 const JUDGED_EVENT: &str = "answers.len());";
-const JUDGED_TICK: &str = "numbers.len());";
+const JUDGED_TICK: &str = "numbers.len(), quota);";
+const JUDGE_TICK: &str = "let refusal = judge_tick(row.len(), numbers.len(), quota);";
+const ADVANCE: &str = "let due = advance(row, numbers);";
+/// A row that the wrong hall takes and a set of drives does not.
+const ADVANCE_AT_MOST_64: &str = "let row = if row.len() > MOST { &mut row[..MOST] } else { row };
+        let due = advance(row, numbers);";
+const NOT_DUE: &str = "drive.wait = 0;
+                0";
+const CHOOSE: &str = "let sent = choose(row, due.drives, quota);";
+const SETTLE: &str = "settle(row, numbers, &due, sent);";
+const FIRST: &str = "let Some(longest) = longest(row, due) else { return 0 };";
+const FIRST_SENT: &str = "let mut sent = 1 << longest;";
+const LONGER: &str = "row[i].wait > row[other].wait";
+const OTHERS: &str = ".take(quota as usize - 1)";
+const SENT: &str = "Model::report(drive, status);
+            drive.wait = 0;";
+const HELD: &str = "drive.wait = drive.wait.saturating_add(1);";
+const QUOTA_OUTSIDE: &str = "quota == 0 || quota > 64";
 const IS_BAD: &str = "number as usize >= drives";
 const REPORT: &str = "65_536 + 256 * u32::from(position) + u32::from(status.0)";
 const PAGE: &str = "for ((number, drive), line) in row.iter().enumerate().zip(page.chunks_exact_mut(LINE)) {";
@@ -59,7 +77,7 @@ pub const EDITS: &[Edit] = &[
         &[(
             TICK,
             "let last = row.len() - 1;
-            for (drive, number) in row[..last].iter_mut().zip(numbers) {",
+            for (i, (drive, number)) in row[..last].iter_mut().zip(numbers).enumerate() {",
         )],
     ),
     // The last entry left out of a list.
@@ -88,27 +106,9 @@ pub const EDITS: &[Edit] = &[
         )],
     ),
     // A tick ends at the first drive that is not well formed.
-    edit(
-        "TickEndsAtBroken",
-        &[(
-            TICKED,
-            "*number = tick_number(Model::give(drive, Ok(Event::Tick)));
-            if *number == 1 {
-                break;
-            }",
-        )],
-    ),
+    edit("TickEndsAtBroken", &[(NOT_WELL_FORMED, "Err(_) => { *number = 1; break; }")]),
     // A drive that is not well formed is ticked: its since rises.
-    edit(
-        "BrokenTicked",
-        &[(
-            TICKED,
-            "*number = tick_number(Model::give(drive, Ok(Event::Tick)));
-            if *number == 1 {
-                drive.since = drive.since.wrapping_add(1);
-            }",
-        )],
-    ),
+    edit("BrokenTicked", &[(NOT_WELL_FORMED, "Err(_) => { drive.since = drive.since.wrapping_add(1); 1 }")]),
     // When a call is refused
 
     // 15 before 14.
@@ -156,7 +156,7 @@ pub const EDITS: &[Edit] = &[
     // Each limit by one.
     edit("RowOf0Taken", &[("drives == 0 || drives > MOST", "drives > MOST")]),
     edit("RowOf64Refused", &[("drives > MOST", "drives >= MOST")]),
-    edit("RowOf65Taken", &[("drives > MOST", "drives > MOST + 1")]),
+    edit("RowOf65Taken", &[("drives > MOST", "drives > MOST + 1"), (ADVANCE, ADVANCE_AT_MOST_64)]),
     edit("ListOf64Refused", &[("list.len() > MOST", "list.len() >= MOST")]),
     edit("ListOf65Given", &[("list.len() > MOST", "list.len() > MOST + 1")]),
     edit("AnswersEqualRefused", &[("places < list.len()", "places <= list.len()")]),
@@ -169,6 +169,7 @@ pub const EDITS: &[Edit] = &[
         "RowCutToByte",
         &[
             ("drives == 0 || drives > MOST", "drives as u8 == 0 || drives as u8 > 64"),
+            (ADVANCE, ADVANCE_AT_MOST_64),
             (PRINTED, PRINTED_IN_PART),
         ],
     ),
@@ -195,7 +196,7 @@ pub const EDITS: &[Edit] = &[
         "RefusedTickGiven",
         &[(
             JUDGED_TICK,
-            "numbers.len());
+            "numbers.len(), quota);
             if refusal == 16 {
                 for drive in &mut row[..numbers.len()] {
                     Model::give(drive, Ok(Event::Tick));
@@ -204,7 +205,10 @@ pub const EDITS: &[Edit] = &[
         )],
     ),
     edit("RefusedAnswersCleared", &[(JUDGED_EVENT, "answers.len()); if refusal != 0 { answers.fill(0); }")]),
-    edit("RefusedNumbersCleared", &[(JUDGED_TICK, "numbers.len()); if refusal != 0 { numbers.fill(0); }")]),
+    edit(
+        "RefusedNumbersCleared",
+        &[(JUDGED_TICK, "numbers.len(), quota); if refusal != 0 { numbers.fill(0); }")],
+    ),
     // The call's refusal is each entry's answer.
     edit("RefusalAnswered", &[(JUDGED_EVENT, "answers.len()); if refusal != 0 { answers.fill(refusal); }")]),
     // The answer rows
@@ -213,18 +217,9 @@ pub const EDITS: &[Edit] = &[
         &[(REPORT, "65_536 + 256 * u32::from(status.0) + u32::from(position)")],
     ),
     edit("ReportWithout65536", &[(REPORT, "256 * u32::from(position) + u32::from(status.0)")]),
-    edit("BrokenSilent", &[("Answer::Refused(_) => 1", "Answer::Refused(_) => 0")]),
+    edit("BrokenSilent", &[(NOT_WELL_FORMED, "Err(_) => 0,")]),
     // The place of a drive that is not well formed keeps its content.
-    edit(
-        "BrokenUnanswered",
-        &[(
-            TICKED,
-            "match tick_number(Model::give(drive, Ok(Event::Tick))) {
-                1 => {}
-                other => *number = other,
-            }",
-        )],
-    ),
+    edit("BrokenUnanswered", &[(NOT_WELL_FORMED, "Err(_) => continue,")]),
     // A read hands its position back.
     edit(
         "ReadHandsBack",
@@ -247,7 +242,319 @@ pub const EDITS: &[Edit] = &[
         )],
     ),
     edit("AnswersTailCleared", &[("for (&number", "answers[list.len()..].fill(0); for (&number")]),
-    edit("NumbersTailCleared", &[("for (drive", "numbers[row.len()..].fill(0); for (drive")]),
+    edit("NumbersTailCleared", &[("for (i, (drive", "numbers[row.len()..].fill(0); for (i, (drive")]),
+    // The quota of W-204: who goes
+
+    // Among equals the higher number.
+    edit("TiesToHigher", &[(LONGER, "row[i].wait >= row[other].wait")]),
+    // The one with the most ticks since its report, for the one that waited longest.
+    edit("LongestBySince", &[(LONGER, "row[i].since > row[other].since")]),
+    // The waits as this tick leaves them, where 65,534 and 65,535 are one.
+    edit(
+        "LongestAfterCounting",
+        &[(LONGER, "row[i].wait.saturating_add(1) > row[other].wait.saturating_add(1)")],
+    ),
+    // The low byte of the wait.
+    edit("LongestByLowByte", &[(LONGER, "row[i].wait as u8 > row[other].wait as u8")]),
+    // The wait as a signed number.
+    edit("LongestSigned", &[(LONGER, "row[i].wait as i16 > row[other].wait as i16")]),
+    // Always the lowest number, and always the highest.
+    edit("LowestGoes", &[(LONGER, "false")]),
+    edit("HighestGoes", &[(LONGER, "true")]),
+    edit("ShortestGoes", &[(LONGER, "row[i].wait < row[other].wait")]),
+    // The one that waited longest goes only if no other is due.
+    edit(
+        "NeverTheLongest",
+        &[(
+            FIRST_SENT,
+            "let due = if due == 1 << longest { due } else { due & !(1 << longest) };
+            let mut sent = 1 << due.trailing_zeros();",
+        )],
+    ),
+    // Drive 0 goes only if no other is due.
+    edit(
+        "Drive0Starves",
+        &[(
+            FIRST,
+            "let due = if due == 1 { due } else { due & !1 };
+            let Some(longest) = longest(row, due) else { return 0 };",
+        )],
+    ),
+    // The last drive goes only if no other is due.
+    edit(
+        "LastDriveStarves",
+        &[(
+            FIRST,
+            "let last = 1 << (row.len() - 1);
+            let due = if due == last { due } else { due & !last };
+            let Some(longest) = longest(row, due) else { return 0 };",
+        )],
+    ),
+    // A drive that is not well formed has its turn, and none goes then.
+    edit(
+        "BrokenTakesTurn",
+        &[
+            (
+                FIRST,
+                "let all = if due == 0 { 0 } else { Drives::MAX >> (MOST - row.len()) };
+                let Some(longest) = longest(row, all) else { return 0 };",
+            ),
+            (FIRST_SENT, "let mut sent = 1 << longest & due;"),
+        ],
+    ),
+    // A drive that is not due has its turn, and goes only if it is due.
+    edit(
+        "NotDueTakesTurn",
+        &[
+            (ADVANCE, "let before = row.to_vec(); let due = advance(row, numbers);"),
+            (
+                CHOOSE,
+                "let waited = |(now, then): (&Drive, &Drive)| Drive { wait: then.wait, ..*now };
+                let waiting: Vec<_> = row.iter().zip(&before).map(waited).collect();
+                let well_formed = |&i: &usize| numbers[i] != 1;
+                let all = (0..row.len()).filter(well_formed).fold(0, |all, i| all | 1 << i);
+                let sent = choose(&waiting, all, quota) & due.drives;",
+            ),
+        ],
+    ),
+    edit("NothingSent", &[(CHOOSE, "let sent = 0;")]),
+    edit("OneOverQuota", &[(OTHERS, ".take(quota as usize)")]),
+    edit("QuotaIgnored", &[(OTHERS, "")]),
+    // What is left of the quota goes to a drive that is not due.
+    edit(
+        "NotDueSent",
+        &[(
+            SETTLE,
+            "settle(row, numbers, &due, sent);
+            let silent = |&i: &usize| due.drives >> i & 1 == 0 && numbers[i] == 0;
+            let spare = (0..row.len()).find(silent).filter(|_| sent.count_ones() < quota);
+            if let Some(i) = spare {
+                let status = Model::ruling_and_status(&row[i]).unwrap().1;
+                Model::report(&mut row[i], status);
+                numbers[i] = report_number(row[i].position, status);
+            }",
+        )],
+    ),
+    // Due by the record as it was before steps 1 to 3.
+    edit(
+        "DueBeforeAgeing",
+        &[(
+            "*number = match Model::advance(drive) {",
+            "let before = *drive;
+            let early = Model::ruling_and_status(&before).is_some_and(|(_, status)| {
+                let distance = u32::from(before.position.abs_diff(before.last.position));
+                before.since >= before.params[3]
+                    && (before.last.reported == 0
+                        || 100 * distance >= 255 * u32::from(before.params[2])
+                        || status.0 != before.last.status
+                        || before.since >= before.params[8])
+            });
+            let report = |drive: &Drive| early.then(|| Model::ruling_and_status(drive).unwrap().1);
+            *number = match Model::advance(drive).map(|_| report(drive)) {",
+        )],
+    ),
+    // What a drive that is due and held keeps
+    edit("HeldResetsSince", &[(HELD, "drive.wait = drive.wait.saturating_add(1); drive.since = 0;")]),
+    edit(
+        "HeldStoresReport",
+        &[(
+            HELD,
+            "let since = drive.since;
+            Model::report(drive, status);
+            drive.since = since;
+            drive.wait = drive.wait.saturating_add(1);",
+        )],
+    ),
+    edit(
+        "HeldSinceNotRisen",
+        &[
+            (ADVANCE, "let before = row.to_vec(); let due = advance(row, numbers);"),
+            (
+                SETTLE,
+                "settle(row, numbers, &due, sent);
+                for i in numbers_of(due.drives & !sent) {
+                    row[i].since = before[i].since;
+                }",
+            ),
+        ],
+    ),
+    edit(
+        "HeldNotAdvanced",
+        &[
+            (ADVANCE, "let before = row.to_vec(); let due = advance(row, numbers);"),
+            (
+                SETTLE,
+                "settle(row, numbers, &due, sent);
+                for i in numbers_of(due.drives & !sent) {
+                    row[i] = Drive { wait: row[i].wait, ..before[i] };
+                }",
+            ),
+        ],
+    ),
+    // A held drive answers with its report, with 1, or not at all.
+    edit(
+        "HeldAnswered",
+        &[(
+            HELD,
+            "drive.wait = drive.wait.saturating_add(1);
+            numbers[i] = report_number(drive.position, status);",
+        )],
+    ),
+    edit("HeldAnswers1", &[(HELD, "drive.wait = drive.wait.saturating_add(1); numbers[i] = 1;")]),
+    edit(
+        "HeldUnanswered",
+        &[(
+            "due.statuses[i] = status;
+                0",
+            "due.statuses[i] = status;
+                *number",
+        )],
+    ),
+    // What the wait becomes
+    edit("HeldNotCounted", &[(HELD, "")]),
+    edit("HeldClearsWait", &[(HELD, "drive.wait = 0;")]),
+    edit("WaitWraps", &[(HELD, "drive.wait = drive.wait.wrapping_add(1);")]),
+    edit("WaitStopsEarly", &[(HELD, "drive.wait = drive.wait.saturating_add(1).min(65_534);")]),
+    edit("WaitOfAByte", &[(HELD, "drive.wait = u16::from((drive.wait as u8).saturating_add(1));")]),
+    edit("NotDueKeepsWait", &[(NOT_DUE, "0")]),
+    edit(
+        "NotDueCounted",
+        &[(
+            NOT_DUE,
+            "drive.wait = drive.wait.saturating_add(1);
+                0",
+        )],
+    ),
+    edit("SentKeepsWait", &[(SENT, "Model::report(drive, status);")]),
+    edit(
+        "SentKeepsSince",
+        &[(
+            SENT,
+            "let since = drive.since; Model::report(drive, status); drive.since = since; drive.wait = 0;",
+        )],
+    ),
+    edit("SentNotStored", &[(SENT, "drive.since = 0; drive.wait = 0;")]),
+    edit("BrokenWaitCleared", &[(NOT_WELL_FORMED, "Err(_) => { drive.wait = 0; 1 }")]),
+    edit(
+        "BrokenWaitCounted",
+        &[(NOT_WELL_FORMED, "Err(_) => { drive.wait = drive.wait.saturating_add(1); 1 }")],
+    ),
+    edit(
+        "RestartKeepsWait",
+        &[(
+            GIVING,
+            "let wait = row[number as usize].wait;
+            *answer = answer_number(Model::give(&mut row[number as usize], event));
+            if event == Ok(Event::Restart) {
+                row[number as usize].wait = wait;
+            }",
+        )],
+    ),
+    // A restart clears the wait of a record that is not well formed too.
+    edit(
+        "RefusedRestartClearsWait",
+        &[(
+            GIVING,
+            "*answer = answer_number(Model::give(&mut row[number as usize], event));
+            if event == Ok(Event::Restart) {
+                row[number as usize].wait = 0;
+            }",
+        )],
+    ),
+    // Any event that is carried out clears it.
+    edit(
+        "EventClearsWait",
+        &[(
+            GIVING,
+            "*answer = answer_number(Model::give(&mut row[number as usize], event));
+            if *answer == 0 {
+                row[number as usize].wait = 0;
+            }",
+        )],
+    ),
+    edit(
+        "CalibrationClearsWait",
+        &[(
+            GIVING,
+            "*answer = answer_number(Model::give(&mut row[number as usize], event));
+            if *answer == 0 && event == Ok(Event::Calibration) {
+                row[number as usize].wait = 0;
+            }",
+        )],
+    ),
+    // When the quota is refused, and what that leaves
+
+    // The drives are ticked before the quota is looked at.
+    edit(
+        "QuotaAfterTick",
+        &[(
+            JUDGED_TICK,
+            "numbers.len(), quota);
+            if refusal == 18 {
+                advance(row, numbers);
+            }",
+        )],
+    ),
+    // The same with the numbers as they were.
+    edit(
+        "QuotaAfterAgeing",
+        &[(
+            JUDGED_TICK,
+            "numbers.len(), quota);
+            if refusal == 18 {
+                advance(row, &mut vec![0; numbers.len()]);
+            }",
+        )],
+    ),
+    // 18 before 16, and before 14.
+    edit(
+        "QuotaBeforeCall",
+        &[(
+            "16 // \"for the hall tick",
+            "if quota == 0 || quota > 64 { 18 } else { 16 } // \"for the hall tick",
+        )],
+    ),
+    edit(
+        "QuotaBeforeRow",
+        &[(
+            "14
+    } else if places",
+            "if quota == 0 || quota > 64 { 18 } else { 14 }
+    } else if places",
+        )],
+    ),
+    // The quota cut to a byte, 257 being 1, and to 16 bits.
+    edit(
+        "QuotaCutToByte",
+        &[(
+            JUDGE_TICK,
+            "let quota = u32::from(quota as u8);
+            let refusal = judge_tick(row.len(), numbers.len(), quota);",
+        )],
+    ),
+    edit(
+        "QuotaCutTo16Bits",
+        &[(
+            JUDGE_TICK,
+            "let quota = u32::from(quota as u16);
+            let refusal = judge_tick(row.len(), numbers.len(), quota);",
+        )],
+    ),
+    // A quota outside is brought in.
+    edit(
+        "QuotaBroughtIn",
+        &[(
+            JUDGE_TICK,
+            "let quota = quota.clamp(1, 64);
+            let refusal = judge_tick(row.len(), numbers.len(), quota);",
+        )],
+    ),
+    // No quota is no limit.
+    edit("Quota0Taken", &[(QUOTA_OUTSIDE, "quota > 64"), (OTHERS, ".take(quota.wrapping_sub(1) as usize)")]),
+    edit("Quota64Refused", &[(QUOTA_OUTSIDE, "quota == 0 || quota >= 64")]),
+    edit("Quota65Taken", &[(QUOTA_OUTSIDE, "quota == 0 || quota > 65")]),
+    // A quota above the row's length is refused.
+    edit("QuotaAboveRowRefused", &[(QUOTA_OUTSIDE, "quota == 0 || quota as usize > drives")]),
     // When a page is refused, and what that leaves
 
     // 17 before 14.

@@ -9,6 +9,7 @@ use crate::plain::Plain;
 use crate::proved::Proved;
 use crate::replays::{model_replay, proved_replay};
 use crate::subject::{Hall, Subject};
+use crate::table::Param;
 use damper::{Answer, Drive, HALL_MOST};
 use std::fs::File;
 use std::hint::black_box;
@@ -34,7 +35,7 @@ fn sample(what: &str, n: usize) -> Vec<u8> {
 }
 
 /// For a count of instructions, by `proved`, `model`, `plain` or none of them: a replay of n records; or, as
-/// `hall`, `list` or `page`, hall ticks, event calls or shift pages for n drives, 64 in a call.
+/// `hall`, `list` or `page`, hall ticks with quota 64, event calls or shift pages for n drives, 64 in a call.
 pub fn spend(who: &str, what: &str, n: usize) {
     if matches!(what, "hall" | "list" | "page") {
         return spend_on_halls(who, what, n);
@@ -63,7 +64,7 @@ fn spend_on_halls(who: &str, what: &str, n: usize) {
     for i in 0..n / HALL_MOST {
         let row = rows.chunks_mut(HALL_MOST).nth(i % 4).unwrap();
         match what {
-            "hall" => hall.tick(row, &mut numbers),
+            "hall" => hall.tick(row, HALL_MOST as u32, &mut numbers),
             "page" => hall.page(row, &mut page),
             _ => hall.event(row, &list, &events[i % events.len()], &mut answers),
         };
@@ -179,19 +180,19 @@ fn any_order() -> [u32; HALL_MOST] {
     std::array::from_fn(|i| (i as u32 * 37 + 11) % 64)
 }
 
-/// Calls on halls of `size` by the three, with the same drives and answers after them, `places` of them for
-/// each drive. `call` also gets the count of calls so far.
+/// Calls on halls of `size` by the three, `places` answers for each drive. `call` also gets the count of
+/// calls so far. Gives what each left: the drives and the answers of the last calls.
 fn on_halls<T: Clone + PartialEq + Default>(
     what: &str,
+    first: &[Drive],
     size: usize,
     places: usize,
     call: impl Fn(&dyn Hall, usize, &mut [Drive], &mut [T]) -> u8,
-) {
-    let first = lived(HALLS);
+) -> [(Vec<Drive>, Vec<T>); 3] {
     let all = |hall: &dyn Hall, (rows, answers): &mut (Vec<Drive>, Vec<T>)| {
         let mut count = 0;
         for _ in 0..ANEW {
-            rows.copy_from_slice(&first);
+            rows.copy_from_slice(first);
             for _ in 0..CALLS {
                 for (row, answers) in rows.chunks_mut(size).zip(answers.chunks_mut(size * places)) {
                     assert!(call(hall, count, row, answers) == 0);
@@ -200,7 +201,7 @@ fn on_halls<T: Clone + PartialEq + Default>(
             }
         }
     };
-    let lent = || (first.clone(), vec![T::default(); first.len() * places]);
+    let lent = || (first.to_vec(), vec![T::default(); first.len() * places]);
     let (mut proved, mut model, mut plain) = (lent(), lent(), lent());
     let drives = first.len() * CALLS * ANEW;
     Rounds::of(
@@ -210,20 +211,61 @@ fn on_halls<T: Clone + PartialEq + Default>(
         }],
     )
     .show(what, "drive");
-    assert!(proved == model && model == plain, "the halls differ");
+    [proved, model, plain]
+}
+
+/// The three leave the same.
+fn same<T: PartialEq>(left: &[T; 3]) {
+    assert!(left[0] == left[1] && left[1] == left[2], "the halls differ");
+}
+
+/// Drives of `lived` that are due at every tick, or at none of those between two beginnings.
+fn all_or_none_due(all: bool) -> Vec<Drive> {
+    let mut rows = lived(HALLS);
+    for drive in &mut rows {
+        let [min_rep_time, rep_per] = if all { [1, 1] } else { [3600, 7200] };
+        drive.params[Param::MinRepTime as usize] = min_rep_time;
+        drive.params[Param::RepPer as usize] = rep_per;
+        drive.since = 0;
+    }
+    rows
+}
+
+/// Hall ticks of 64. Which due drives go is free but for one, so how many each of the three sends may differ.
+fn quotas() {
+    for all in [false, true] {
+        let first = all_or_none_due(all);
+        for quota in [1, 8, 64] {
+            let what = format!("hall tick of 64, quota {quota}, {} due", if all { "all" } else { "none" });
+            let left = on_halls(&what, &first, HALL_MOST, 1, |hall, _, row, numbers: &mut [u32]| {
+                hall.tick(row, quota, numbers)
+            });
+            if all && quota > 1 {
+                let sent = left.each_ref().map(|(_, numbers)| {
+                    let reports = numbers.iter().filter(|&&number| number >= 65_536).count();
+                    format!("{:.1}", reports as f64 / HALLS as f64)
+                });
+                println!("  reports a hall tick: Rattle {}, Rust {}, plain C {}", sent[0], sent[1], sent[2]);
+            } else {
+                same(&left);
+            }
+        }
+    }
+    let what = "hall tick of 1";
+    same(&on_halls(what, &lived(HALLS), 1, 1, |hall, _, row, numbers| hall.tick(row, 1, numbers)));
 }
 
 fn halls() {
-    for size in [HALL_MOST, 1] {
-        on_halls(&format!("hall tick of {size}"), size, 1, |hall, _, row, numbers| hall.tick(row, numbers));
-    }
+    quotas();
+    let first = lived(HALLS);
     let (list, events) = (any_order(), listed_events());
-    on_halls("event to a list of 64", HALL_MOST, 1, |hall, count, row, answers| {
+    same(&on_halls("event to a list of 64", &first, HALL_MOST, 1, |hall, count, row, answers| {
         hall.event(row, &list, &events[count % events.len()], answers)
-    });
+    }));
     // The second implementation's by Rust's formatting.
     for size in [HALL_MOST, 1] {
-        on_halls(&format!("shift page of {size}"), size, LINE, |hall, _, row, page| hall.page(row, page));
+        let what = format!("shift page of {size}");
+        same(&on_halls(&what, &first, size, LINE, |hall, _, row, page| hall.page(row, page)));
     }
 }
 

@@ -4,12 +4,15 @@
 //!
 //! The reading goes along with the list: for each kind it keeps the latest accepted event and how
 //! many accepted ticks came before it. Counts are differences of such numbers and have no cap.
+//!
+//! Of a drive in a hall its share of the calls is such a list, and document 02's W-204 says what takes the
+//! place of the waiting sentence there.
 
 use crate::table::{Param, TABLE};
 use damper::{Answer, Refusal, Status};
 use std::fmt;
 
-/// A part of demand 3, in its order, then refusals.
+/// A part of demand 3, in its order, then refusals, then what W-204 adds for a drive in a hall.
 #[derive(Clone, Copy, PartialEq, Eq, Debug)]
 pub enum Clause {
     Spacing,
@@ -19,9 +22,15 @@ pub enum Clause {
     OtherMoves,
     OtherReports,
     Refusal,
+    /// "A well-formed drive is due when the fourth step of a tick would report", and no other one is sent.
+    OnlyDue,
+    /// "A drive due at each of as many hall ticks in a row as the row has drives, and not restarted between
+    /// them, is sent at one of them"
+    Turn,
 }
 
 impl Clause {
+    /// Of a drive by itself.
     pub const ALL: [Clause; 7] = [
         Clause::Spacing,
         Clause::Waiting,
@@ -31,11 +40,13 @@ impl Clause {
         Clause::OtherReports,
         Clause::Refusal,
     ];
+    /// Of a drive in a hall besides.
+    pub const HALL: [Clause; 2] = [Clause::OnlyDue, Clause::Turn];
 }
 
 /// The parts of demand 3 that do not hold, one bit each.
 #[derive(Clone, Copy, PartialEq, Eq, Debug, Default)]
-pub struct Breach(u8);
+pub struct Breach(u16);
 
 impl Breach {
     pub fn none(self) -> bool {
@@ -50,14 +61,15 @@ impl Breach {
         self.0 |= other.0;
     }
 
-    fn add(&mut self, clause: Clause, broken: bool) {
-        self.0 |= u8::from(broken) << clause as u8;
+    pub(crate) fn add(&mut self, clause: Clause, broken: bool) {
+        self.0 |= u16::from(broken) << clause as u8;
     }
 }
 
 impl fmt::Display for Breach {
     fn fmt(&self, f: &mut fmt::Formatter) -> fmt::Result {
-        let names: Vec<_> = Clause::ALL.iter().filter(|c| self.has(**c)).map(|c| format!("{c:?}")).collect();
+        let clauses = Clause::ALL.iter().chain(&Clause::HALL);
+        let names: Vec<_> = clauses.filter(|c| self.has(**c)).map(|c| format!("{c:?}")).collect();
         write!(f, "{}", names.join(" "))
     }
 }
@@ -303,6 +315,62 @@ pub struct Checker {
     report: Option<Report>,
     /// The drive's position after the event before.
     position: u8,
+    turn: Turn,
+}
+
+/// A drive's hall ticks in a row, up to the latest, at which it was due and not sent, without restart between
+/// them.
+#[derive(Default)]
+pub struct Turn {
+    count: usize,
+    /// A restart after the latest hall tick broke them off.
+    broken_off: bool,
+    /// An event was given to the drive between them, or a hall tick was refused there.
+    event: bool,
+    refused: bool,
+}
+
+impl Turn {
+    /// A hall tick; true if the drive should have been sent by now, the row having so many drives.
+    pub fn passed(&mut self, due: bool, sent: bool, drives: usize) -> bool {
+        if due && !sent {
+            self.count += 1;
+            self.broken_off = false;
+        } else {
+            *self = Turn::default();
+        }
+        self.count >= drives
+    }
+
+    /// An event was given to the drive.
+    pub fn event(&mut self, restart: bool) {
+        if restart {
+            *self = Turn { broken_off: self.broken_off || self.count > 0, ..Turn::default() };
+        } else {
+            self.event = self.count > 0;
+        }
+    }
+
+    /// A hall tick was refused, and counts for nothing.
+    pub fn tick_refused(&mut self) {
+        self.refused = self.count > 0;
+    }
+
+    pub fn count(&self) -> usize {
+        self.count
+    }
+
+    pub fn is_broken_off(&self) -> bool {
+        self.broken_off
+    }
+
+    pub fn has_event(&self) -> bool {
+        self.event
+    }
+
+    pub fn has_refused_tick(&self) -> bool {
+        self.refused
+    }
 }
 
 impl Checker {
@@ -322,6 +390,7 @@ impl Checker {
             },
             report: None,
             position: 0,
+            turn: Turn::default(),
         }
     }
 
@@ -350,29 +419,70 @@ impl Checker {
         let judged = self.list.judge(bytes);
         breach.add(Clause::Refusal, refusal != judged.err());
         match judged {
-            Ok([1, ..]) => self.tick(report, &mut breach),
+            Ok([1, ..]) => {
+                let status = self.list.tick();
+                self.reported(report, status, &mut breach);
+                breach.add(Clause::Waiting, self.waited_in_vain(status));
+            }
             other => {
                 if let Ok(event) = other {
                     self.list.take(event);
+                    self.turn.event(event[0] == 9);
                 }
                 breach.add(Clause::OtherReports, report.is_some());
                 breach.add(Clause::OtherMoves, position != self.position);
             }
         }
-        // "after every event that position is the one read here"
-        breach.add(Clause::Move, position != self.list.position);
-        self.position = position;
+        self.moved(position, &mut breach);
         breach
     }
 
-    fn tick(&mut self, report: Option<(u8, u8)>, breach: &mut Breach) {
+    /// The next hall tick of a share, in a row of so many drives: a number 1 or the report's position and
+    /// status, and the drive's position after it. `found_due` is whether the drive's record before the tick
+    /// says that it is due; all else, and whether it is due too, is read off the list.
+    pub fn hall_tick(
+        &mut self,
+        not_well_formed: bool,
+        report: Option<(u8, u8)>,
+        position: u8,
+        found_due: bool,
+        drives: usize,
+    ) -> Breach {
+        let mut breach = Breach::default();
+        breach.add(Clause::Refusal, not_well_formed);
         let status = self.list.tick();
+        let due = self.due(status);
+        self.reported(report, status, &mut breach);
+        // "a last tick that breaks that limb always finds its drive due"
+        breach.add(Clause::Waiting, self.waited_in_vain(status) && !(due && found_due));
+        breach.add(Clause::OnlyDue, report.is_some() && !due);
+        breach.add(Clause::Turn, self.turn.passed(due, report.is_some(), drives));
+        self.moved(position, &mut breach);
+        breach
+    }
+
+    /// "after every event that position is the one read here"
+    fn moved(&mut self, position: u8, breach: &mut Breach) {
+        breach.add(Clause::Move, position != self.list.position);
+        self.position = position;
+    }
+
+    /// The report of the present tick, if there is one.
+    fn reported(&mut self, report: Option<(u8, u8)>, status: u8, breach: &mut Breach) {
         if let Some((position, said)) = report {
             breach.add(Clause::Content, (position, said) != (self.list.position, status));
             breach.add(Clause::Spacing, self.too_early());
             self.report = Some(Report { tick: self.list.ticks, position, status: said });
         }
-        breach.add(Clause::Waiting, self.waited_in_vain(status));
+    }
+
+    /// Whether the fourth step of the present tick would report. Since is the ticks after the latest report
+    /// or restart, the present one counted.
+    fn due(&self, status: u8) -> bool {
+        let latest = self.report.map_or(0, |report| report.tick).max(self.list.restart);
+        let since = self.list.ticks - latest;
+        since >= self.list.param(Param::MinRepTime)
+            && (self.differs(status) || since >= self.list.param(Param::RepPer))
     }
 
     /// Spacing: "Two spontaneous reports are never fewer ticks apart than the MinRepTime in force at the

@@ -83,7 +83,7 @@ pub enum Origin {
     Broken,
     /// Well formed but for one flag, any byte.
     AnyFlag,
-    /// Well formed but for one byte of the 44, any.
+    /// Well formed but for one byte of the 46, any.
     AnyByte,
     RandomBytes,
 }
@@ -424,7 +424,18 @@ impl Gen {
         if !self.rng.once_in(4) {
             r.last = Last { reported: 1, position: self.last_position(&r), status: self.last_status(&r) };
         }
+        r.wait = self.wait();
         r
+    }
+
+    /// Mostly none or few, so that many are equal, or about 65,535.
+    pub fn wait(&mut self) -> u16 {
+        match self.rng.below(8) {
+            0..3 => 0,
+            3..5 => self.rng.between(1, 3),
+            5 | 6 => u16::MAX - self.rng.between(0, 2),
+            _ => self.rng.draw() as u16,
+        }
     }
 
     /// About one of two limits, about 65,535, or anywhere.
@@ -481,7 +492,7 @@ impl Gen {
             }
             Origin::AnyByte => {
                 let mut bytes = self.record().to_bytes();
-                bytes[self.rng.below(44) as usize] = self.rng.byte();
+                bytes[self.rng.below(46) as usize] = self.rng.byte();
                 Drive::from_bytes(bytes)
             }
             Origin::RandomBytes => self.random_bytes(),
@@ -543,7 +554,7 @@ impl Gen {
     }
 }
 
-fn write(param: Param, value: u16) -> Bytes {
+pub fn write(param: Param, value: u16) -> Bytes {
     let [b, c] = value.to_be_bytes();
     Bytes::event(8, param.row().number, b, c)
 }

@@ -1,5 +1,5 @@
-//! The hall of document 02's W-201: drives in one row, worked on where they stand, each by the drive of
-//! `model`. The shift page is its W-203.
+//! The hall of document 02's W-201 with the quota of its W-204: drives in one row, worked on where they
+//! stand, each by the drive of `model`. The shift page is its W-203.
 
 use crate::event::Event;
 use crate::model::{position_to_percent, Model};
@@ -7,7 +7,7 @@ use crate::subject::Hall;
 use damper::{Answer, Drive, Rank, Status};
 use std::io::{self, Write};
 
-/// The most drives in a row, and the most entries in a list.
+/// The most drives in a row, the most entries in a list, and the most reports of a hall tick.
 const MOST: usize = 64;
 
 /// Bytes of a line: "exactly 28 columns and a line feed".
@@ -30,15 +30,16 @@ impl Hall for HallModel {
         0
     }
 
-    /// "One call ticks them all and fills one number per drive in such a row"
-    fn tick(&self, row: &mut [Drive], numbers: &mut [u32]) -> u8 {
-        let refusal = judge_tick(row.len(), numbers.len());
+    /// "One call ticks them all and fills one number per drive in such a row"; W-204: "The hall tick gets a
+    /// quota, 1 to 64, and sends at most that many reports."
+    fn tick(&self, row: &mut [Drive], quota: u32, numbers: &mut [u32]) -> u8 {
+        let refusal = judge_tick(row.len(), numbers.len(), quota);
         if refusal != 0 {
             return refusal;
         }
-        for (drive, number) in row.iter_mut().zip(numbers) {
-            *number = tick_number(Model::give(drive, Ok(Event::Tick)));
-        }
+        let due = advance(row, numbers);
+        let sent = choose(row, due.drives, quota);
+        settle(row, numbers, &due, sent);
         0
     }
 
@@ -53,6 +54,125 @@ impl Hall for HallModel {
         }
         0
     }
+}
+
+/// Drives of a row, drive i at bit i.
+pub type Drives = u64;
+
+/// The numbers of these drives, the lowest first.
+pub fn numbers_of(mut drives: Drives) -> impl Iterator<Item = usize> {
+    std::iter::from_fn(move || {
+        let lowest = drives.trailing_zeros() as usize;
+        drives &= drives.wrapping_sub(1);
+        (lowest < MOST).then_some(lowest)
+    })
+}
+
+/// The due drives of a hall tick, and the status that each has to report.
+struct Due {
+    drives: Drives,
+    statuses: [Status; MOST],
+}
+
+/// Steps 1 to 3 of a tick to every drive, with its number as far as no report is sent. Of the wait: "not due
+/// it is 0, but a drive not well formed keeps it"; one that is due has it still.
+#[inline(always)]
+fn advance(row: &mut [Drive], numbers: &mut [u32]) -> Due {
+    let mut due = Due { drives: 0, statuses: [Status(0); MOST] };
+    for (i, (drive, number)) in row.iter_mut().zip(numbers).enumerate() {
+        *number = match Model::advance(drive) {
+            Ok(Some(status)) => {
+                due.drives |= 1 << i;
+                due.statuses[i] = status;
+                0
+            }
+            Ok(None) => {
+                drive.wait = 0;
+                0
+            }
+            Err(_) => 1, // "1 for a drive not well formed, which stays unticked"
+        };
+    }
+    due
+}
+
+/// "If any is due, the one that waited longest goes, lower number first among equals; which other due drives
+/// go is free": here the lowest, as far as the quota goes.
+#[inline(always)]
+fn choose(row: &[Drive], due: Drives, quota: u32) -> Drives {
+    let Some(longest) = longest(row, due) else { return 0 };
+    let mut sent = 1 << longest;
+    for i in numbers_of(due & !sent).take(quota as usize - 1) {
+        sent |= 1 << i;
+    }
+    sent
+}
+
+/// "the one that waited longest .., lower number first among equals"
+#[inline(always)]
+fn longest(row: &[Drive], due: Drives) -> Option<usize> {
+    let mut longest = None;
+    for i in numbers_of(due) {
+        if longest.is_none_or(|other: usize| row[i].wait > row[other].wait) {
+            longest = Some(i);
+        }
+    }
+    longest
+}
+
+/// Step 4 of the due drives that are sent; the others wait one hall tick more.
+#[inline(always)]
+fn settle(row: &mut [Drive], numbers: &mut [u32], due: &Due, sent: Drives) {
+    for i in numbers_of(due.drives) {
+        let (drive, status) = (&mut row[i], due.statuses[i]);
+        if sent >> i & 1 == 1 {
+            Model::report(drive, status);
+            drive.wait = 0;
+            numbers[i] = report_number(drive.position, status);
+        } else {
+            // "how many hall ticks in a row it was due and not sent, stopping at 65,535"
+            drive.wait = drive.wait.saturating_add(1);
+        }
+    }
+}
+
+/// What is to be said of a hall tick that has sent given drives.
+pub struct Ticked {
+    /// 0, or what refuses the hall tick; then no drive is due.
+    pub refusal: u8,
+    pub due: Drives,
+    /// Why no hall tick may send these and no others.
+    pub forbidden: Option<&'static str>,
+}
+
+/// A hall tick that sends these drives, as far as they are due.
+pub fn tick_sending(row: &mut [Drive], quota: u32, numbers: &mut [u32], sent: Drives) -> Ticked {
+    let (drives, places) = (row.len(), numbers.len());
+    let refusal = judge_tick(drives, places, quota);
+    if refusal != 0 {
+        return Ticked { refusal, due: 0, forbidden: None };
+    }
+    let all_due = advance(row, numbers);
+    let forbidden = forbidden(row, all_due.drives, quota, sent);
+    settle(row, numbers, &all_due, sent);
+    Ticked { refusal, due: all_due.drives, forbidden }
+}
+
+/// Why a hall tick may not send just these drives, the due ones having their wait still.
+fn forbidden(row: &[Drive], due: Drives, quota: u32, sent: Drives) -> Option<&'static str> {
+    if sent & !due != 0 {
+        return Some("a drive is sent that is not due");
+    }
+    if sent.count_ones() > quota {
+        return Some("more are sent than the quota");
+    }
+    // Drive i goes before drive j.
+    let before = |i: usize, j: usize| row[i].wait > row[j].wait || row[i].wait == row[j].wait && i <= j;
+    let first = numbers_of(due).find(|&i| numbers_of(due).all(|j| before(i, j)));
+    if first.is_some_and(|first| sent >> first & 1 == 0) {
+        return Some("the one that waited longest is not sent");
+    }
+    None
 }
 
 /// 0, or the first that fits an event call: "14 to 16 come before 1 to 13, in this order".
@@ -72,12 +192,15 @@ fn judge_event(drives: usize, list: &[u32], tick: bool, places: usize) -> u8 {
     0
 }
 
-/// 0, or the first that fits a hall tick.
-fn judge_tick(drives: usize, places: usize) -> u8 {
+/// 0, or the first that fits a hall tick: "18 when the quota is outside 1 to 64, after 16 and before any
+/// drive is ticked".
+fn judge_tick(drives: usize, places: usize, quota: u32) -> u8 {
     if outside_1_to_64(drives) {
         14
     } else if places < drives {
         16 // "for the hall tick, than the row of drives"
+    } else if quota == 0 || quota > 64 {
+        18
     } else {
         0
     }
@@ -108,15 +231,9 @@ fn answer_number(answer: Answer) -> u8 {
     }
 }
 
-/// "0 silent, 65,536 + 256 × position + status for a report, 1 for a drive not well formed"
-fn tick_number(answer: Answer) -> u32 {
-    match answer {
-        Answer::Tick { position, report: Some(status), .. } => {
-            65_536 + 256 * u32::from(position) + u32::from(status.0)
-        }
-        Answer::Refused(_) => 1,
-        _ => 0,
-    }
+/// "65,536 + 256 × position + status for a report"
+fn report_number(position: u8, status: Status) -> u32 {
+    65_536 + 256 * u32::from(position) + u32::from(status.0)
 }
 
 /// "number 2, position 3, percent 3, all to the right; ruling commander 8, to the left [...]; status as 8

@@ -1,22 +1,24 @@
 //! Halls against the second implementation, over lists of calls: after each call its number, the whole row
-//! and the whole answer row or page are compared, with places behind each that were not lent. What a drive
-//! that was fresh at first got of the calls, its share, goes through the checker of demand 3.
+//! and the whole answer row or page are compared, with places behind each that were not lent. Which due
+//! drives a hall tick sends is free in part: those that the hall has sent have to be an allowed choice, and
+//! all else is compared with the second implementation's tick that sends just these. What a drive that was
+//! fresh at first got of the calls, its share, goes through the checker of demand 3, and every drive has to
+//! get its turn.
 
 pub mod cover;
 pub mod gen;
 pub mod wrong;
 
-use crate::check::{Breach, Checker};
+use crate::check::{Breach, Checker, Clause, Turn};
 use crate::compare::{hex, shorten, Ask, Finding};
-use crate::hall::{HallModel, LINE};
+use crate::event::Event;
+use crate::hall::{numbers_of, tick_sending, Drives, HallModel, LINE};
 use crate::model::Model;
 use crate::subject::{Hall, Subject};
 use cover::HallCover;
-use damper::{Drive, HallAnswer, HallTick, Refusal};
+use damper::{Drive, HallAnswer, HallTick};
 use gen::{Call, HallGen};
 use std::fmt::Debug;
-
-const TICK: [u8; 6] = [0x5A, 0xC3, 1, 0, 0, 0];
 
 /// A hall beside the second implementation, both with the same row at first.
 struct Pair<'h, H: Hall + ?Sized> {
@@ -27,6 +29,8 @@ struct Pair<'h, H: Hall + ?Sized> {
     model: Vec<Drive>,
     tested: Vec<Drive>,
     shares: Vec<Option<Share>>,
+    /// Of every drive, due as its record says.
+    turns: Vec<Turn>,
 }
 
 /// What a drive that was fresh at first got of the calls. A number that stands for nothing is left to the
@@ -51,15 +55,15 @@ impl Share {
         self.checker.heard(bytes, refusal, None, position)
     }
 
-    /// A hall tick's turn.
-    fn tick(&mut self, number: u32, position: u8) -> Breach {
+    /// A hall tick's turn, in a row of so many drives.
+    fn tick(&mut self, number: u32, position: u8, found_due: bool, drives: usize) -> Breach {
         self.turns += 1;
-        let (refusal, report) = match HallTick::from_number(number) {
-            Some(HallTick::NotWellFormed) => (Some(Refusal::Record), None),
-            Some(HallTick::Report { position, status }) => (None, Some((position, status.0))),
-            _ => (None, None),
+        let (not_well_formed, report) = match HallTick::from_number(number) {
+            Some(HallTick::NotWellFormed) => (true, None),
+            Some(HallTick::Report { position, status }) => (false, Some((position, status.0))),
+            _ => (false, None),
         };
-        self.checker.heard(&TICK, refusal, report, position)
+        self.checker.hall_tick(not_well_formed, report, position, found_due, drives)
     }
 }
 
@@ -74,6 +78,12 @@ struct Failure {
 /// A row to lend, of content that no call writes, and a place behind it.
 fn odd<T>(places: usize, content: impl Fn(u32) -> T) -> Vec<T> {
     (0..=places as u32).map(content).collect()
+}
+
+/// The drives that a hall tick has sent, by its numbers.
+fn sent(numbers: &[u32]) -> Drives {
+    let bits = numbers.iter().take(64).enumerate();
+    bits.map(|(i, &number)| Drives::from(number >= 65_536) << i).fold(0, |sent, bit| sent | bit)
 }
 
 /// The first answer that differs.
@@ -97,7 +107,7 @@ fn lines_differ(row: &[Drive], model: &[u8], tested: &[u8]) -> Option<String> {
 
 impl<'h, H: Hall + ?Sized> Pair<'h, H> {
     fn new(hall: &'h H, ask: Ask, row: &[Drive]) -> Self {
-        let behind = Drive::from_bytes([0xEE; 44]);
+        let behind = Drive::from_bytes([0xEE; 46]);
         let rows = [row, &[behind]].concat();
         Pair {
             hall,
@@ -106,6 +116,7 @@ impl<'h, H: Hall + ?Sized> Pair<'h, H> {
             model: rows.clone(),
             tested: rows,
             shares: row.iter().map(Share::of).collect(),
+            turns: row.iter().map(|_| Turn::default()).collect(),
         }
     }
 
@@ -115,9 +126,13 @@ impl<'h, H: Hall + ?Sized> Pair<'h, H> {
     }
 
     fn call(&mut self, call: &Call, cover: Option<&mut HallCover>) -> Result<(), Failure> {
+        if self.ask == Ask::Demand3 {
+            // The hall goes its own way, and who is due is judged by its own records.
+            self.model.copy_from_slice(&self.tested);
+        }
         match *call {
             Call::Event { ref list, bytes, places } => self.event(list, bytes.as_slice(), places, cover),
-            Call::Tick { places } => self.tick(places, cover),
+            Call::Tick { quota, places } => self.tick(quota, places, cover),
             Call::Page { bytes } => self.page(bytes, cover),
         }
     }
@@ -148,26 +163,54 @@ impl<'h, H: Hall + ?Sized> Pair<'h, H> {
                 }
             }
         }
-        self.judge((expected, number), answers_differ(&model, &tested), breach)
-    }
-
-    fn tick(&mut self, places: usize, cover: Option<&mut HallCover>) -> Result<(), Failure> {
-        let lent = odd(places, |i| 0xDEAD_0000 | i);
-        let (mut model, mut tested) = (lent.clone(), lent);
-        let expected = HallModel.tick(&mut self.model[..self.drives], &mut model[..places]);
-        let number = self.hall.tick(&mut self.tested[..self.drives], &mut tested[..places]);
-        if let Some(cover) = cover {
-            cover.tick(self.drives, places, expected, &model[..self.drives.min(places)]);
-        }
-        let mut breach = Breach::default();
-        if self.ask != Ask::Equality && number == 0 {
-            for ((share, drive), &number) in self.shares.iter_mut().zip(&self.tested).zip(&tested[..places]) {
-                if let Some(share) = share {
-                    breach.join(share.tick(number, drive.position));
+        if number == 0 {
+            let restart = Event::from_bytes(bytes) == Ok(Event::Restart);
+            for (&place, &answer) in list.iter().zip(&tested[..places]) {
+                if let Some(turn) = self.turns.get_mut(place as usize) {
+                    turn.event(restart && answer == 0);
                 }
             }
         }
         self.judge((expected, number), answers_differ(&model, &tested), breach)
+    }
+
+    fn tick(&mut self, quota: u32, places: usize, cover: Option<&mut HallCover>) -> Result<(), Failure> {
+        let lent = odd(places, |i| 0xDEAD_0000 | i);
+        let (mut model, mut tested) = (lent.clone(), lent);
+        let before = cover.is_some().then(|| self.row().to_vec());
+        let drives = self.drives;
+        let number = self.hall.tick(&mut self.tested[..drives], quota, &mut tested[..places]);
+        let sent = if number == 0 { sent(&tested[..places.min(drives)]) } else { 0 };
+        let expected = tick_sending(&mut self.model[..drives], quota, &mut model[..places], sent);
+        if let (Some(cover), Some(before)) = (cover, before) {
+            let numbers = &model[..drives.min(places)];
+            cover.tick(&before, (quota, places), &expected, (numbers, sent), &self.turns);
+        }
+        let mut breach = Breach::default();
+        // "a hall call refused itself belongs to no share"
+        if number != 0 {
+            self.turns.iter_mut().for_each(Turn::tick_refused);
+        } else if expected.refusal == 0 {
+            for (i, turn) in self.turns.iter_mut().enumerate() {
+                let (due, sent) = (expected.due >> i & 1 == 1, sent >> i & 1 == 1);
+                let passed = turn.passed(due, sent, drives);
+                breach.add(Clause::Turn, passed && self.ask != Ask::Equality);
+            }
+        }
+        if self.ask != Ask::Equality && number == 0 {
+            for (i, share) in self.shares.iter_mut().enumerate().take(places) {
+                if let Some(share) = share {
+                    let found_due = expected.due.checked_shr(i as u32).is_some_and(|due| due & 1 == 1);
+                    breach.join(share.tick(tested[i], self.tested[i].position, found_due, drives));
+                }
+            }
+        }
+        let forbidden = expected.forbidden.map(|why| {
+            let drives = |drives| numbers_of(drives).collect::<Vec<_>>();
+            format!("\n  {why}: due {:?}, sent {:?}", drives(expected.due), drives(sent))
+        });
+        let difference = forbidden.or_else(|| answers_differ(&model, &tested));
+        self.judge((expected.refusal, number), difference, breach)
     }
 
     /// A page belongs to no share: it gives a drive nothing.
@@ -242,7 +285,11 @@ fn first_failure<H: Hall + ?Sized>(
             }
         }
         if let Some(cover) = cover.as_deref_mut() {
-            cover.shares(pair.shares.iter().flatten().filter(|share| share.turns > 0).count() as u64);
+            for (share, turn) in pair.shares.iter().zip(&pair.turns) {
+                if share.as_ref().is_some_and(|share| share.turns > 0) {
+                    cover.share(turn.count() > 0);
+                }
+            }
         }
     }
     Ok(done)
@@ -267,7 +314,7 @@ pub fn halls<H: Hall + ?Sized>(
                 Call::Event { list, bytes, places } => {
                     format!("\n  {} to {list:?}, {places} places", hex(bytes.as_slice()))
                 }
-                Call::Tick { places } => format!("\n  hall tick, {places} places"),
+                Call::Tick { quota, places } => format!("\n  hall tick, quota {quota}, {places} places"),
                 Call::Page { bytes } => format!("\n  page of {bytes} bytes"),
             };
         }

@@ -1,6 +1,6 @@
-//! The drive of document 01, with the percents of document 02's W-202. A record becomes a `State`, in which
-//! what is absent is absent; one that cannot is refused by 1. An event then acts on the state or is refused
-//! by 9 to 13.
+//! The drive of document 01, with the percents of document 02's W-202 and the wait of its W-204. A record
+//! becomes a `State`, in which what is absent is absent; one that cannot is refused by 1. An event then acts
+//! on the state or is refused by 9 to 13.
 
 use crate::event::{self, Command, Event, Forcing};
 use crate::subject::Subject;
@@ -49,6 +49,24 @@ impl Model {
             }
             Err(refusal) => Answer::Refused(refusal),
         }
+    }
+
+    /// Steps 1 to 3 of a tick to the drive where it stands, and the status that the fourth would report.
+    /// W-204: "A well-formed drive is due when the fourth step of a tick would report."
+    #[inline(always)]
+    pub fn advance(record: &mut Drive) -> Result<Option<Status>, Refusal> {
+        let mut state = State::from_record(record).ok_or(Refusal::Record)?;
+        let (_, report) = state.advance();
+        let Drive { position, age, run, since, .. } = state.to_record();
+        (record.position, record.age, record.run, record.since) = (position, age, run, since);
+        Ok(report)
+    }
+
+    /// The fourth step, of a drive that is due: "A report goes out, and since becomes 0".
+    #[inline(always)]
+    pub fn report(record: &mut Drive, Status(status): Status) {
+        record.last = Last { reported: 1, position: record.position, status };
+        record.since = 0;
     }
 
     /// Who rules, and the status, of the record as it is: without a tick, so the age has not risen. None if
@@ -145,6 +163,8 @@ struct State {
     run: Option<Run>,
     since: u16,
     last: Option<Report>,
+    /// Hall ticks in a row at which the drive was due and not sent.
+    wait: u16,
 }
 
 /// Each flag is 0 or 1.
@@ -178,6 +198,7 @@ impl State {
         run: None,
         since: 0,
         last: None,
+        wait: 0,
     };
 
     /// "A record is well formed when ..."
@@ -207,6 +228,7 @@ impl State {
             run,
             since: r.since,
             last: absent_reads_0(r.last.reported, last, r.last.position == 0 && r.last.status == 0)?,
+            wait: r.wait,
         })
     }
 
@@ -241,6 +263,7 @@ impl State {
                 position: last.position,
                 status: last.status.0,
             },
+            wait: self.wait,
         }
     }
 
@@ -315,7 +338,7 @@ impl State {
     }
 
     /// "Restart keeps position and parameters, clears all else and sets since to 0; StartSynchronization 1
-    /// or 2 then starts a run of K ticks toward 0 or 255."
+    /// or 2 then starts a run of K ticks toward 0 or 255." W-204: "Restart clears the wait".
     fn restart(&mut self) {
         *self = State { position: self.position, params: self.params, ..State::FRESH };
         self.run = match self.params.get(Param::StartSynchronization) {
@@ -325,9 +348,22 @@ impl State {
         };
     }
 
-    /// "One tick, in order"
+    /// "One tick, in order". The wait stays: "only hall ticks change it".
     #[inline(always)]
     fn tick(&mut self) -> Answer {
+        let before = self.position;
+        let (rank, report) = self.advance();
+        // 4. A report goes out, and since becomes 0, if it is due.
+        if let Some(status) = report {
+            self.last = Some(Report { position: self.position, status });
+            self.since = 0;
+        }
+        Answer::Tick { position: self.position, rank, motor: self.motor(before), report }
+    }
+
+    /// Steps 1 to 3: the rank that ruled, and the status if step 4 reports.
+    #[inline(always)]
+    fn advance(&mut self) -> (Rank, Option<Status>) {
         // 1. Since rises by one, and so does age if there is a setpoint.
         self.since = one_more(self.since);
         if let Some(setpoint) = &mut self.bus {
@@ -343,20 +379,8 @@ impl State {
         // 3. A run loses one tick and ends at 0.
         self.run = self.run.and_then(Run::after_tick);
 
-        // 4. A report goes out, and since becomes 0, if it is due.
         let status = self.status();
-        let due = self.report_due(status);
-        if due {
-            self.last = Some(Report { position: self.position, status });
-            self.since = 0;
-        }
-
-        Answer::Tick {
-            position: self.position,
-            rank,
-            motor: self.motor(before),
-            report: due.then_some(status),
-        }
+        (rank, self.report_due(status).then_some(status))
     }
 
     /// The ruling rank and its target: "6 fault, 5 forcing, 4 run, 3 hand, 2 tool, 1 bus, 0 backup".

@@ -26,7 +26,7 @@ extern "C" {
         answers: *mut u8,
         places: usize,
     ) -> u8;
-    fn plain_hall_tick(row: *mut Drive, drives: usize, numbers: *mut u32, places: usize) -> u8;
+    fn plain_hall_tick(row: *mut Drive, drives: usize, quota: u32, numbers: *mut u32, places: usize) -> u8;
     fn plain_hall_page(row: *const Drive, drives: usize, page: *mut u8, bytes: usize) -> u8;
 }
 
@@ -35,7 +35,7 @@ pub struct Plain;
 impl Plain {
     pub fn fresh(&self) -> Drive {
         // Not well formed, so that what is left unwritten shows.
-        let mut record = Drive::from_bytes([0xEE; 44]);
+        let mut record = Drive::from_bytes([0xEE; 46]);
         // SAFETY: the pointer is to a record.
         unsafe { plain_fresh(&mut record) };
         record
@@ -94,9 +94,9 @@ impl Hall for Plain {
         }
     }
 
-    fn tick(&self, row: &mut [Drive], numbers: &mut [u32]) -> u8 {
+    fn tick(&self, row: &mut [Drive], quota: u32, numbers: &mut [u32]) -> u8 {
         // SAFETY: each pointer goes with the length of its slice.
-        unsafe { plain_hall_tick(row.as_mut_ptr(), row.len(), numbers.as_mut_ptr(), numbers.len()) }
+        unsafe { plain_hall_tick(row.as_mut_ptr(), row.len(), quota, numbers.as_mut_ptr(), numbers.len()) }
     }
 
     fn page(&self, row: &[Drive], page: &mut [u8]) -> u8 {

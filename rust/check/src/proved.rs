@@ -36,8 +36,8 @@ impl Hall for Proved {
     }
 
     #[inline]
-    fn tick(&self, row: &mut [Drive], numbers: &mut [u32]) -> u8 {
-        number(damper::hall_tick(row, numbers))
+    fn tick(&self, row: &mut [Drive], quota: u32, numbers: &mut [u32]) -> u8 {
+        number(damper::hall_tick(row, quota, numbers))
     }
 
     #[inline]

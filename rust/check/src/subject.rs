@@ -17,13 +17,13 @@ pub trait Subject {
     fn write(&self, buffer: &mut [u8], fields: [u8; 4]) -> Result<(), Refusal>;
 }
 
-/// A hall of drives in one row. Each call answers 0 or its refusal, 14 to 17.
+/// A hall of drives in one row. Each call answers 0 or its refusal, 14 to 18.
 pub trait Hall {
     /// The bytes to the listed drives, a number for each entry.
     fn event(&self, row: &mut [Drive], list: &[u32], bytes: &[u8], answers: &mut [u8]) -> u8;
 
-    /// A tick to every drive, a number for each.
-    fn tick(&self, row: &mut [Drive], numbers: &mut [u32]) -> u8;
+    /// A tick to every drive with at most `quota` reports, a number for each drive: 0, 14, 16 or 18.
+    fn tick(&self, row: &mut [Drive], quota: u32, numbers: &mut [u32]) -> u8;
 
     /// A line for every drive: 0, 14 or 17.
     fn page(&self, row: &[Drive], page: &mut [u8]) -> u8;

@@ -1,11 +1,11 @@
-//! The hall of document 02's W-201 and the shift page of its W-203: their corners by hand, on the proved hall
-//! and on the second implementation, and the comparison of the two in short.
+//! The hall of document 02's W-201, the shift page of its W-203 and the quota of its W-204: their corners by
+//! hand, on the proved hall and on the second implementation, and the comparison of the two in short.
 
 use damper::{Answer, Commands, Drive, Last, Rank, Run};
-use damper_check::check::{Checker, Clause};
+use damper_check::check::{Checker, Clause, Turn};
 use damper_check::event::Event;
 use damper_check::gen::Gen;
-use damper_check::hall::{HallModel, LINE};
+use damper_check::hall::{numbers_of, tick_sending, Drives, HallModel, LINE};
 use damper_check::halls::cover::HallCover;
 use damper_check::halls::{halls, wrong};
 use damper_check::model::Model;
@@ -15,7 +15,7 @@ use damper_check::subject::{Hall, Subject};
 use damper_check::table::Param;
 
 const BOTH: [&dyn Hall; 2] = [&Proved, &HallModel];
-/// With the plain C hall, for pages.
+/// With the plain C hall, for pages and quotas.
 const THREE: [&dyn Hall; 3] = [&Proved, &HallModel, &Plain];
 
 const TICK: [u8; 6] = [0x5A, 0xC3, 1, 0, 0, 0];
@@ -24,6 +24,7 @@ const CALIBRATION: [u8; 6] = [0x5A, 0xC3, 6, 0, 0, 0];
 const READ: [u8; 6] = [0x5A, 0xC3, 10, 0, 0, 0];
 const RATE_7: [u8; 6] = [0x5A, 0xC3, 8, 203, 0, 7];
 const MIN_REP_TIME_1: [u8; 6] = [0x5A, 0xC3, 8, 117, 0, 1];
+const RESTART: [u8; 6] = [0x5A, 0xC3, 9, 0, 0, 0];
 
 /// A record that is not well formed.
 fn broken() -> Drive {
@@ -56,7 +57,7 @@ fn rows_of_1_to_64() {
     for hall in BOTH {
         for drives in [0, 1, 2, 63, 64, 65, 66, 128, 256, 257, 320] {
             let (mut row, mut numbers) = (vec![Model.fresh(); drives], vec![7; drives]);
-            let number = hall.tick(&mut row, &mut numbers);
+            let number = hall.tick(&mut row, 64, &mut numbers);
             if (1..=64).contains(&drives) {
                 let ticked = Model.step(&Model.fresh(), &TICK).1;
                 assert_eq!((number, row, numbers), (0, vec![ticked; drives], vec![0; drives]));
@@ -106,7 +107,7 @@ fn calls_that_do_not_fit() {
         assert_eq!(refused(hall, 3, &[1], &SETPOINT, 0), 16);
         for drives in [1, 3, 64] {
             let (mut row, mut numbers) = (vec![Model.fresh(); drives], vec![7; drives - 1]);
-            assert_eq!(hall.tick(&mut row, &mut numbers), 16);
+            assert_eq!(hall.tick(&mut row, 64, &mut numbers), 16);
             assert_eq!((row, numbers), (vec![Model.fresh(); drives], vec![7; drives - 1]));
         }
     }
@@ -124,7 +125,7 @@ fn the_first_that_fits() {
         assert_eq!(refused(hall, 64, &[64; 65], &TICK, 0), 15);
         assert_eq!(refused(hall, 64, &[0; 65], &[], 0), 16);
         let (mut row, mut numbers) = (vec![Model.fresh(); 65], vec![7; 64]);
-        assert_eq!(hall.tick(&mut row, &mut numbers), 14);
+        assert_eq!(hall.tick(&mut row, 64, &mut numbers), 14);
         assert_eq!((row, numbers), (vec![Model.fresh(); 65], vec![7; 64]));
 
         let (mut row, mut answers) = ([broken()], []);
@@ -186,7 +187,7 @@ fn a_hall_of_three() {
         assert_eq!(hall.event(&mut row, &[0], &MIN_REP_TIME_1, &mut answers), 0);
 
         let mut numbers = [7; 4];
-        assert_eq!(hall.tick(&mut row, &mut numbers), 0);
+        assert_eq!(hall.tick(&mut row, 1, &mut numbers), 0);
         assert_eq!(numbers, [65_536 + 36, 1, 0, 7]);
         assert_eq!((row[0].run.left, row[0].since, row[1], row[2].run.left), (50, 0, broken(), 50));
         assert_eq!(row[2].since, 1);
@@ -204,7 +205,7 @@ fn tick_numbers() {
         let mut row = [Model.fresh(), open];
         for count in 1..=10 {
             let mut numbers = [7; 2];
-            assert_eq!(hall.tick(&mut row, &mut numbers), 0);
+            assert_eq!(hall.tick(&mut row, 1, &mut numbers), 0);
             assert_eq!(numbers[0], if count == 10 { 65_536 + 32 } else { 0 });
             assert_eq!(numbers[1], if count == 1 { 65_536 + 256 * 255 + 51 } else { 0 });
         }
@@ -234,12 +235,417 @@ fn refused_calls_belong_to_no_share() {
         assert!(share.heard(&SETPOINT, None, None, row[0].position).none());
         assert!(with_refused.heard(&SETPOINT, None, None, row[0].position).none());
 
-        assert_eq!(hall.tick(&mut row, &mut []), 16);
-        assert!(with_refused.heard(&TICK, None, None, row[0].position).has(Clause::Move));
+        assert_eq!(hall.tick(&mut row, 1, &mut []), 16);
+        assert_eq!(hall.tick(&mut row, 0, &mut [0]), 18);
+        assert!(with_refused.hall_tick(false, None, row[0].position, false, 1).has(Clause::Move));
 
-        assert_eq!(hall.tick(&mut row, &mut [0]), 0);
-        assert!(share.heard(&TICK, None, None, row[0].position).none());
+        assert_eq!(hall.tick(&mut row, 1, &mut [0]), 0);
+        assert!(share.hall_tick(false, None, row[0].position, false, 1).none());
     }
+}
+
+/// A fresh drive that is due at every tick and has waited so long.
+fn waiting(wait: u16) -> Drive {
+    let mut drive = Drive { wait, ..Model.fresh() };
+    drive.params[Param::MinRepTime as usize] = 1;
+    drive.params[Param::RepPer as usize] = 1;
+    drive
+}
+
+/// The drives that a hall tick sends.
+fn sent(hall: &dyn Hall, row: &mut [Drive], quota: u32) -> Vec<usize> {
+    let mut numbers = vec![7; row.len()];
+    assert_eq!(hall.tick(row, quota, &mut numbers), 0);
+    (0..row.len()).filter(|&i| numbers[i] >= 65_536).collect()
+}
+
+fn waits(row: &[Drive]) -> Vec<u16> {
+    row.iter().map(|drive| drive.wait).collect()
+}
+
+/// "18 when the quota is outside 1 to 64, after 16 and before any drive is ticked"
+#[test]
+fn quotas_of_1_to_64() {
+    let quotas =
+        [0, 65, 66, 128, 255, 256, 257, 320, 65_535, 65_536, 65_537, 1 << 24 | 1, 1 << 31 | 1, u32::MAX];
+    for hall in THREE {
+        for quota in quotas {
+            let tick = |drives: usize, places: usize| {
+                let (mut row, mut numbers) = (vec![waiting(9); drives], vec![7; places]);
+                let number = hall.tick(&mut row, quota, &mut numbers);
+                assert_eq!((row, numbers), (vec![waiting(9); drives], vec![7; places]));
+                number
+            };
+            for drives in [1, 2, 63, 64] {
+                assert_eq!(tick(drives, drives), 18, "{quota}");
+                assert_eq!(tick(drives, drives + 5), 18, "{quota}");
+                assert_eq!(tick(drives, drives - 1), 16, "{quota}");
+            }
+            for drives in [0, 65, 257] {
+                assert_eq!(tick(drives, drives), 14, "{quota}");
+                assert_eq!(tick(drives, drives.saturating_sub(1)), 14, "{quota}");
+            }
+        }
+        for quota in 1..=64 {
+            let mut row = [waiting(0); 64];
+            let sent = sent(hall, &mut row, quota);
+            assert!(sent.contains(&0) && sent.len() <= quota as usize, "{quota}");
+        }
+    }
+}
+
+/// "the one that waited longest goes, lower number first among equals"; with quota 1 no other.
+#[test]
+fn the_one_that_waited_longest() {
+    let rows: [(&[u16], usize); 9] = [
+        (&[0, 0, 0], 0),
+        (&[0, 1, 0], 1),
+        (&[1, 3, 3, 2], 1),
+        (&[3, 2, 3], 0),
+        (&[0, 255, 256], 2),
+        (&[32_767, 32_768], 1),
+        (&[65_534, 65_535], 1),
+        (&[65_534, 65_535, 65_535], 1),
+        (&[65_535, 65_535], 0),
+    ];
+    for hall in THREE {
+        for (before, goes) in rows {
+            let mut row: Vec<_> = before.iter().map(|&wait| waiting(wait)).collect();
+            assert_eq!(sent(hall, &mut row, 1), [goes], "{before:?}");
+            let mut after: Vec<_> = before.iter().map(|wait| wait.saturating_add(1)).collect();
+            after[goes] = 0;
+            assert_eq!(waits(&row), after, "{before:?}");
+
+            let mut row: Vec<_> = before.iter().map(|&wait| waiting(wait)).collect();
+            assert!(sent(hall, &mut row, 2).contains(&goes), "{before:?}");
+        }
+        // Its since is not looked at.
+        let mut row = [Drive { since: 500, ..waiting(1) }, waiting(2)];
+        assert_eq!(sent(hall, &mut row, 1), [1]);
+        // Nor is the wait of a drive that is not due or not well formed.
+        let mut row = [Drive { wait: 9, ..Model.fresh() }, waiting(1), Drive { wait: 9, ..broken() }];
+        assert_eq!(sent(hall, &mut row, 1), [1]);
+        assert_eq!(waits(&row), [0, 0, 9]);
+    }
+}
+
+/// Each of the four: sent, held, not due, not well formed.
+#[test]
+fn what_a_hall_tick_leaves() {
+    let last = Last { reported: 1, position: 77, status: 3 };
+    let moving = Drive { position: 20, commands: Commands { hand: 1, handpos: 100, ..NONE }, ..waiting(3) };
+    let before = [
+        Drive { since: 40, last, ..moving },
+        Drive { wait: 4, last, ..moving },
+        Drive { wait: 500, since: 3, ..Model.fresh() },
+        Drive { wait: 600, since: 3, ..broken() },
+    ];
+    for hall in THREE {
+        let (mut row, mut numbers) = (before, [7; 5]);
+        assert_eq!(hall.tick(&mut row, 1, &mut numbers), 0);
+        assert_eq!(numbers, [0, 65_536 + 256 * 25 + 34, 0, 1, 7]);
+        let reported = Last { reported: 1, position: 25, status: 34 };
+        assert_eq!(row[0], Drive { position: 25, since: 41, wait: 4, ..before[0] });
+        assert_eq!(row[1], Drive { position: 25, since: 0, wait: 0, last: reported, ..before[1] });
+        assert_eq!(row[2], Drive { since: 4, wait: 0, ..before[2] });
+        assert_eq!(row[3], before[3]);
+    }
+}
+
+/// "Restart clears the wait; otherwise only hall ticks change it."
+#[test]
+fn what_changes_the_wait() {
+    let events: [([u8; 4], bool); 16] = [
+        ([2, 200, 0, 0], true),
+        ([3, 51, 50, 0], true),
+        ([3, 51, 50, 1], true),
+        ([3, 51, 0, 2], true),
+        ([4, 3, 0, 0], true),
+        ([5, 1, 9, 0], true),
+        ([5, 0, 0, 0], true),
+        ([6, 0, 0, 0], true),
+        ([7, 1, 0, 0], true),
+        ([8, 117, 0, 5], true),
+        ([9, 0, 0, 0], true),
+        ([10, 0, 0, 0], true),
+        ([11, 117, 0, 0], true),
+        ([9, 1, 0, 0], false),
+        ([3, 52, 50, 0], false),
+        ([12, 0, 0, 0], false),
+    ];
+    for (event, accepted) in events {
+        for wait in [1, 65_535] {
+            let bytes = [[0x5A, 0xC3].as_slice(), &event].concat();
+            let kept = if event == [9, 0, 0, 0] { 0 } else { wait };
+            for hall in THREE {
+                let (mut row, mut answers) = ([waiting(wait), Drive { wait, ..broken() }], [7; 2]);
+                assert_eq!(hall.event(&mut row, &[0, 1], &bytes, &mut answers), 0);
+                assert_eq!((answers[0] == 0, answers[1]), (accepted, 1), "{event:?}");
+                assert_eq!(waits(&row), [kept, wait], "{event:?}");
+            }
+            for subject in [&Proved as &dyn Subject, &Model] {
+                assert_eq!(subject.step(&waiting(wait), &bytes).1.wait, kept, "{event:?}");
+            }
+        }
+    }
+}
+
+/// The tick of a single drive reports and leaves the wait.
+#[test]
+fn a_single_tick_leaves_the_wait() {
+    for subject in [&Proved as &dyn Subject, &Model] {
+        for wait in [0, 5, 65_535] {
+            for drive in [waiting(wait), Drive { wait, ..Model.fresh() }] {
+                let (answer, after) = subject.step(&drive, &TICK);
+                let due = drive.params[Param::MinRepTime as usize] == 1;
+                assert!(matches!(answer, Answer::Tick { report, .. } if report.is_some() == due));
+                assert_eq!(after.wait, wait);
+            }
+        }
+    }
+    assert_eq!((Proved.fresh().wait, Model.fresh().wait, Plain.fresh().wait), (0, 0, 0));
+}
+
+/// With quota 1 and all drives due always, each goes once in as many hall ticks as there are drives, whatever
+/// the waits were at first.
+#[test]
+fn each_has_its_turn() {
+    let mut gen = Gen::new(5);
+    for hall in THREE {
+        for drives in 1..=64 {
+            let mut row: Vec<_> = (0..drives).map(|_| waiting(gen.wait())).collect();
+            let mut went: Vec<_> = (0..drives).flat_map(|_| sent(hall, &mut row, 1)).collect();
+            went.sort();
+            assert!(went.into_iter().eq(0..drives));
+            let again: Vec<_> = (0..drives).flat_map(|_| sent(hall, &mut row, 1)).collect();
+            let waited: Vec<_> = row.iter().map(|drive| usize::from(drive.wait)).collect();
+            assert!((0..drives).all(|turn| waited[again[turn]] == drives - 1 - turn));
+        }
+    }
+}
+
+/// A held drive breaks the waiting sentence of a drive by itself, and nothing that a hall promises as long as
+/// it is due and has its turn.
+#[test]
+fn a_share_that_waits() {
+    let ticks = |drives: usize, found_due: bool| {
+        let (mut alone, mut share) = (Checker::from_fresh(), Checker::from_fresh());
+        assert!(alone.heard(&MIN_REP_TIME_1, None, None, 0).none());
+        assert!(share.heard(&MIN_REP_TIME_1, None, None, 0).none());
+        assert!(alone.heard(&TICK, None, None, 0).has(Clause::Waiting));
+        share.hall_tick(false, None, 0, found_due, drives)
+    };
+    assert!(ticks(2, true).none());
+    assert!(ticks(1, true).has(Clause::Turn) && !ticks(1, true).has(Clause::Waiting));
+    assert!(ticks(2, false).has(Clause::Waiting));
+
+    // Due at the tenth tick, held there, at the eleventh and the twelfth.
+    let held = |restart_after: Option<usize>| {
+        let mut share = Checker::from_fresh();
+        let mut found = Vec::new();
+        for tick in 1..=12 {
+            let breach = share.hall_tick(false, None, 0, tick >= 10, 3);
+            found.push(breach.has(Clause::Turn));
+            if restart_after == Some(tick) {
+                assert!(share.heard(&RESTART, None, None, 0).none());
+            }
+        }
+        found.iter().position(|&found| found).map(|at| at + 1)
+    };
+    assert_eq!(held(None), Some(12));
+    assert_eq!(held(Some(9)), None);
+    assert_eq!(held(Some(11)), None);
+
+    // A report where none is due.
+    let mut share = Checker::from_fresh();
+    assert!(share.hall_tick(false, Some((0, 32)), 0, false, 3).has(Clause::OnlyDue));
+}
+
+/// In a hall of one a drive is sent when it is due and at no other tick, so that what the checker reads off the
+/// list is when the drive by itself reports.
+#[test]
+fn due_off_the_list() {
+    let mut gen = Gen::new(6);
+    for _ in 0..300 {
+        let (mut record, mut share) = (Model.fresh(), Checker::from_fresh());
+        for _ in 0..gen.list() {
+            let bytes = gen.event(&record);
+            let (answer, after) = Model.step(&record, bytes.as_slice());
+            record = after;
+            let breach = match answer {
+                Answer::Tick { position, report, .. } => {
+                    let report = report.map(|status| (position, status.0));
+                    share.hall_tick(false, report, record.position, report.is_some(), 1)
+                }
+                answer => share.event(bytes.as_slice(), &answer, record.position),
+            };
+            assert!(breach.none(), "{breach}");
+        }
+    }
+}
+
+/// "A drive due at each of as many hall ticks in a row as the row has drives, and not restarted between them, is
+/// sent at one of them", by a search through the whole list for each hall tick.
+#[test]
+fn turns_by_a_search() {
+    let mut gen = Gen::new(7);
+    for _ in 0..2_000 {
+        let drives = 1 + gen.rng.below(5) as usize;
+        let mut turn = Turn::default();
+        // Due, sent, and how many restarts came before.
+        let mut ticks: Vec<(bool, bool, u32)> = Vec::new();
+        let mut restarts = 0;
+        for _ in 0..60 {
+            match gen.rng.below(12) {
+                0 => {
+                    restarts += 1;
+                    turn.event(true);
+                }
+                1 => turn.event(false),
+                _ => {
+                    let due = !gen.rng.once_in(5);
+                    let sent = due && gen.rng.once_in(4);
+                    ticks.push((due, sent, restarts));
+                    let broken = ticks.len().checked_sub(drives).is_some_and(|first| {
+                        let row = &ticks[first..];
+                        row.iter().all(|&(due, sent, before)| due && !sent && before == row[0].2)
+                    });
+                    assert_eq!(turn.passed(due, sent, drives), broken, "{drives}, {ticks:?}");
+                }
+            }
+        }
+    }
+}
+
+/// Of the row before a hall tick, its due drives and the quota, the drives to send.
+type Choice = fn(&[Drive], Drives, u32) -> Drives;
+
+/// A hall of the second implementation that chooses otherwise.
+struct Choosing(Choice);
+
+impl Hall for Choosing {
+    fn event(&self, row: &mut [Drive], list: &[u32], bytes: &[u8], answers: &mut [u8]) -> u8 {
+        HallModel.event(row, list, bytes, answers)
+    }
+
+    fn tick(&self, row: &mut [Drive], quota: u32, numbers: &mut [u32]) -> u8 {
+        let (mut copy, mut places) = (row.to_vec(), vec![0; numbers.len()]);
+        let due = tick_sending(&mut copy, quota, &mut places, 0).due;
+        tick_sending(row, quota, numbers, (self.0)(row, due, quota)).refusal
+    }
+
+    fn page(&self, row: &[Drive], page: &mut [u8]) -> u8 {
+        HallModel.page(row, page)
+    }
+}
+
+/// Due drives, the longest waiting first, lower numbers first among equals.
+fn by_wait(row: &[Drive], due: Drives) -> Vec<usize> {
+    let mut order: Vec<_> = numbers_of(due).collect();
+    order.sort_by_key(|&i| std::cmp::Reverse(row[i].wait));
+    order
+}
+
+fn set(numbers: impl IntoIterator<Item = usize>) -> Drives {
+    numbers.into_iter().fold(0, |set, i| set | 1 << i)
+}
+
+/// "which other due drives go is free"
+#[test]
+fn the_choice_of_the_others_is_free() {
+    let choices: [Choice; 4] = [
+        |row, due, _| set(by_wait(row, due).into_iter().take(1)),
+        |row, due, quota| set(by_wait(row, due).into_iter().take(quota as usize)),
+        |row, due, quota| {
+            let order = by_wait(row, due);
+            let others = order.iter().skip(1).rev().copied().take((quota as usize).saturating_sub(1));
+            set(order.iter().copied().take(1).chain(others))
+        },
+        |row, due, quota| {
+            let order = by_wait(row, due);
+            let others = order.iter().skip(1).copied().filter(|i| row[*i].since % 2 == 0);
+            set(order.iter().copied().take(1).chain(others.take((quota as usize).saturating_sub(1))))
+        },
+    ];
+    for choice in choices {
+        let compared = halls(&Choosing(choice), 3, 30_000, &mut HallCover::default());
+        assert!(compared.map_err(|finding| panic!("{finding}")).is_ok());
+    }
+}
+
+/// The bytes of a record: what is not named is a fresh drive's.
+fn record_bytes(fields: &[(usize, u8)]) -> [u8; 46] {
+    let mut bytes = [0; 46];
+    for (param, value) in Model.fresh().params.into_iter().enumerate() {
+        bytes[2 + 2 * param..4 + 2 * param].copy_from_slice(&value.to_le_bytes());
+    }
+    for &(place, byte) in fields {
+        bytes[place] = byte;
+    }
+    bytes
+}
+
+/// A row of three in memory, at bytes 0, 46 and 92, and room for a fourth behind it that is not lent.
+#[test]
+fn a_row_of_three_in_bytes() {
+    // MinRepTime 1 and RepPer 1, low byte first.
+    let due = [(8, 1), (9, 0), (18, 1), (19, 0)];
+    // Position 10, since 0x0102, last report 9 with status 32, wait 0x0107, by hand toward 100.
+    let first = [(0, 10), (28, 1), (29, 100), (38, 2), (39, 1), (40, 1), (41, 9), (42, 32), (44, 7), (45, 1)];
+    // No run with 9 ticks left; position 11, since 0x0304, wait 0x0605.
+    let second = [(0, 11), (37, 9), (38, 4), (39, 3), (44, 5), (45, 6)];
+    // Position 200, Rate 17, forced to 255, since 255, wait 0x0108.
+    let third = [(0, 200), (20, 17), (27, 3), (38, 255), (44, 8), (45, 1)];
+    let records = [
+        record_bytes(&[&due[..], &first].concat()),
+        record_bytes(&second),
+        record_bytes(&[&due[..], &third].concat()),
+        [0xEE; 46],
+    ];
+    let mut after = records;
+    // Held: it moves to 15, since is 0x0103, wait 0x0108.
+    (after[0][0], after[0][38], after[0][44]) = (15, 3, 8);
+    // Sent: it moves to 217, since is 0, the last report 217 with status 48, wait 0.
+    for (place, byte) in [(0, 217), (38, 0), (40, 1), (41, 217), (42, 48), (44, 0), (45, 0)] {
+        after[2][place] = byte;
+    }
+    let mut given = after;
+    // A setpoint of 200 with age 0 to the third and the first.
+    for drive in [0, 2] {
+        (given[drive][32], given[drive][33]) = (1, 200);
+    }
+    let page = b" 0  15   6 hand     00000010\n 1 --- --- -------- --------\n 2 217  85 forced   00010000\n";
+    for hall in [&Proved as &dyn Hall, &Plain] {
+        let mut memory: Vec<u16> =
+            records.concat().chunks(2).map(|pair| u16::from_ne_bytes([pair[0], pair[1]])).collect();
+        // The two bytes of each record that no field has are left out.
+        let same = |memory: &[u16], expected: [[u8; 46]; 4]| {
+            let bytes: Vec<u8> = memory.iter().flat_map(|pair| pair.to_ne_bytes()).collect();
+            for (place, (byte, expected)) in bytes.iter().zip(expected.concat()).enumerate() {
+                let gap = place < 3 * 46 && matches!(place % 46, 1 | 43);
+                assert!(gap || *byte == expected, "byte {} of record {}", place % 46, place / 46);
+            }
+        };
+        // SAFETY: room for three records of 46 bytes, aligned to 2; any bytes are a record.
+        let row = |memory: &mut [u16]| unsafe {
+            std::slice::from_raw_parts_mut(memory[..69].as_mut_ptr().cast::<Drive>(), 3)
+        };
+        let mut numbers = [7; 4];
+        assert_eq!(hall.tick(row(&mut memory), 1, &mut numbers), 0);
+        assert_eq!(numbers, [0, 1, 65_536 + 256 * 217 + 48, 7]);
+        same(&memory, after);
+        let mut answers = [7; 4];
+        assert_eq!(hall.event(row(&mut memory), &[2, 1, 0], &SETPOINT, &mut answers), 0);
+        assert_eq!(answers, [0, 1, 0, 7]);
+        same(&memory, given);
+        let mut shown = [0; 3 * LINE];
+        assert_eq!(hall.page(row(&mut memory), &mut shown), 0);
+        assert_eq!(shown.escape_ascii().to_string(), page.escape_ascii().to_string());
+        same(&memory, given);
+    }
+    let mut row = [records[0], records[1], records[2]].map(Drive::from_bytes);
+    assert_eq!(HallModel.tick(&mut row, 1, &mut [0; 3]), 0);
+    assert_eq!(row.map(|drive| drive.to_bytes()), [after[0], after[1], after[2]]);
 }
 
 /// A page of so many bytes, each of them other than a line's, after a call that leaves the row and what is
@@ -327,8 +733,8 @@ fn a_page() {
 fn pages_of_one() {
     shows(&[Model.fresh()], &[b" 0   0   0 backup   00100000\n"]);
     shows(&[broken()], &[b" 0 --- --- -------- --------\n"]);
-    shows(&[Drive::from_bytes([0xEE; 44])], &[b" 0 --- --- -------- --------\n"]);
-    shows(&[Drive::from_bytes([0; 44])], &[b" 0 --- --- -------- --------\n"]);
+    shows(&[Drive::from_bytes([0xEE; 46])], &[b" 0 --- --- -------- --------\n"]);
+    shows(&[Drive::from_bytes([0; 46])], &[b" 0 --- --- -------- --------\n"]);
 }
 
 /// The page says bus where age is Timeout, and the next tick is ruled by backup.
@@ -408,8 +814,7 @@ fn short_comparison() {
 #[test]
 fn wrong_halls_are_caught() {
     for wrong in wrong::ALL {
-        let caught = wrong::catch(wrong.hall, 1, 60_000);
-        assert!(caught.by_calls.is_some(), "{}", wrong.name);
+        assert!(wrong::caught_by_calls(wrong.hall, 1, 60_000).is_some(), "{}", wrong.name);
     }
 }
 
@@ -419,6 +824,32 @@ fn shares_break_demand_3() {
     for name in ["PlaceForNumber", "LastDriveSkipped", "RefusedEventGiven", "PositionAndStatusExchanged"] {
         let wrong = wrong::ALL.iter().find(|wrong| wrong.name == name).unwrap();
         assert!(wrong::catch(wrong.hall, 1, 20_000).by_demand_3.is_some(), "{name}");
+    }
+}
+
+/// The clause named finds each of these by itself, in one hall or another.
+#[test]
+fn clauses_of_halls_are_broken() {
+    for (name, clause) in [
+        ("LowestGoes", Clause::Turn),
+        ("ShortestGoes", Clause::Turn),
+        ("NeverTheLongest", Clause::Turn),
+        ("Drive0Starves", Clause::Turn),
+        ("LastDriveStarves", Clause::Turn),
+        ("BrokenTakesTurn", Clause::Turn),
+        ("NothingSent", Clause::Turn),
+        ("HeldNotCounted", Clause::Turn),
+        ("SentKeepsWait", Clause::Turn),
+        ("NotDueSent", Clause::OnlyDue),
+        ("SentNotStored", Clause::OnlyDue),
+        ("HeldResetsSince", Clause::Waiting),
+        ("HeldSinceNotRisen", Clause::Waiting),
+        ("SentKeepsSince", Clause::Spacing),
+        ("HeldNotAdvanced", Clause::Move),
+    ] {
+        let wrong = wrong::ALL.iter().find(|wrong| wrong.name == name).unwrap();
+        let found = |seed| wrong::catch(wrong.hall, seed, 60_000).by_demand_3;
+        assert!((1..30).filter_map(found).any(|(_, breach)| breach.has(clause)), "{name}");
     }
 }
 

@@ -9,8 +9,8 @@ use damper_check::plain::Plain;
 use damper_check::proved::Proved;
 use damper_check::subject::Subject;
 
-/// A tick, a setpoint and a read.
-const EVENTS: [[u8; 4]; 3] = [[1, 0, 0, 0], [2, 128, 0, 0], [10, 0, 0, 0]];
+/// A tick, a setpoint, a restart and a read.
+const EVENTS: [[u8; 4]; 4] = [[1, 0, 0, 0], [2, 128, 0, 0], [9, 0, 0, 0], [10, 0, 0, 0]];
 
 /// The three agree on a record, and give whether it is well formed.
 fn same(record: Drive) -> bool {
@@ -49,6 +49,7 @@ fn well_formed_records() -> Vec<Drive> {
         age: 40,
         since: 50,
         last: Last { reported: 1, position: 60, status: 32 },
+        wait: 70,
         ..fresh
     };
     let commands = |change: fn(&mut Commands)| {
@@ -68,6 +69,32 @@ fn well_formed_records() -> Vec<Drive> {
         Drive { age: 65_535, ..commands(|c| (c.stored, c.setpoint) = (1, 200)) },
         Drive { last: Last { reported: 1, position: 200, status: 255 }, ..fresh },
     ]
+}
+
+/// Nothing is asked of the wait: any is well formed, and no event but a restart changes it.
+#[test]
+fn every_wait() {
+    for record in well_formed_records() {
+        for wait in (0..=255).chain((0..=255).map(|high| high << 8)).chain([65_534, 65_535]) {
+            let waiting = Drive { wait, ..record };
+            assert!(same(waiting));
+            for [kind, a, b, c] in EVENTS {
+                let event = Bytes::event(kind, a, b, c);
+                let kept = if kind == 9 { 0 } else { wait };
+                assert_eq!(Proved.step(&waiting, event.as_slice()).1.wait, kept, "{event:?}");
+            }
+        }
+    }
+}
+
+/// The record in bytes: 46 of them, the wait in the last two, low byte first.
+#[test]
+fn the_wait_in_bytes() {
+    let record = Drive { wait: 0x1234, ..Model.fresh() };
+    let bytes = record.to_bytes();
+    assert_eq!((bytes.len(), bytes[44], bytes[45]), (46, 0x34, 0x12));
+    assert_eq!(Drive::from_bytes(bytes), record);
+    assert_eq!(Drive::restore(bytes), Ok(record));
 }
 
 #[test]

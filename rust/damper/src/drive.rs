@@ -3,7 +3,7 @@
 use crate::{exported, Answer, Event, Parameter, Refusal};
 use core::array;
 
-/// One drive: its record, 44 bytes of plain numbers, and nothing beside it.
+/// One drive: its record, 46 bytes of plain numbers, and nothing beside it.
 ///
 /// The fields are public. A host shows or stores them, and hiding them would guard nothing: any bytes are a
 /// record, and one that is not well formed is refused by the drive itself, unchanged, by
@@ -25,6 +25,8 @@ pub struct Drive {
     pub since: u16,
     /// The last report, if any.
     pub last: Last,
+    /// Hall ticks in a row at which a report was due and not sent, up to 65,535.
+    pub wait: u16,
 }
 
 /// What fault, forcing, hand, tool and bus ask for.
@@ -86,7 +88,7 @@ impl Drive {
     /// bytes[26] = 2; // the fault flag
     /// assert_eq!(Drive::restore(bytes), Err(Refusal::Record));
     /// ```
-    pub fn restore(bytes: [u8; 44]) -> Result<Drive, Refusal> {
+    pub fn restore(bytes: [u8; 46]) -> Result<Drive, Refusal> {
         let drive = Drive::from_bytes(bytes);
         if drive.well_formed() {
             Ok(drive)
@@ -97,7 +99,7 @@ impl Drive {
 
     /// The record of these bytes, well formed or not. No field has bytes 1 and 43, and nothing is asked of
     /// them.
-    pub fn from_bytes(bytes: [u8; 44]) -> Drive {
+    pub fn from_bytes(bytes: [u8; 46]) -> Drive {
         let pair = |at: usize| u16::from_le_bytes([bytes[at], bytes[at + 1]]);
         let [fault, forcing, hand, handpos, tool, toolpos, stored, setpoint] =
             array::from_fn(|i| bytes[26 + i]);
@@ -109,14 +111,15 @@ impl Drive {
             run: Run { kind: bytes[36], left: bytes[37] },
             since: pair(38),
             last: Last { reported: bytes[40], position: bytes[41], status: bytes[42] },
+            wait: pair(44),
         }
     }
 
-    /// The 44 bytes of the record: each field at its offset in memory, lower byte first, and 0 in bytes 1
+    /// The 46 bytes of the record: each field at its offset in memory, lower byte first, and 0 in bytes 1
     /// and 43.
-    pub fn to_bytes(&self) -> [u8; 44] {
-        let Drive { position, params, commands: c, age, run, since, last } = *self;
-        let mut bytes = [0; 44];
+    pub fn to_bytes(&self) -> [u8; 46] {
+        let Drive { position, params, commands: c, age, run, since, last, wait } = *self;
+        let mut bytes = [0; 46];
         bytes[0] = position;
         for (pair, value) in bytes[2..26].chunks_exact_mut(2).zip(params) {
             pair.copy_from_slice(&value.to_le_bytes());
@@ -128,6 +131,7 @@ impl Drive {
         bytes[36..38].copy_from_slice(&[run.kind, run.left]);
         bytes[38..40].copy_from_slice(&since.to_le_bytes());
         bytes[40..43].copy_from_slice(&[last.reported, last.position, last.status]);
+        bytes[44..46].copy_from_slice(&wait.to_le_bytes());
         bytes
     }
 
@@ -181,7 +185,7 @@ mod tests {
     /// Each byte at its place: the bytes are those of the record in memory.
     #[test]
     fn bytes() {
-        let bytes: [u8; 44] = array::from_fn(|i| if i == 1 || i == 43 { 0 } else { i as u8 });
+        let bytes: [u8; 46] = array::from_fn(|i| if i == 1 || i == 43 { 0 } else { i as u8 });
         let pair = |i: u8| u16::from_le_bytes([i, i + 1]);
         let drive = Drive {
             position: 0,
@@ -200,6 +204,7 @@ mod tests {
             run: Run { kind: 36, left: 37 },
             since: pair(38),
             last: Last { reported: 40, position: 41, status: 42 },
+            wait: pair(44),
         };
         assert_eq!(Drive::from_bytes(bytes), drive);
         assert_eq!(drive.to_bytes(), bytes);

@@ -66,7 +66,13 @@ extern "C" {
 
 // libhall_tick.a
 extern "C" {
-    fn damper_hall_tick(row: *mut Drive, drives: usize, numbers: *mut u32, places: usize) -> u8;
+    fn damper_hall_tick(
+        row: *mut Drive,
+        drives: usize,
+        quota: u32,
+        numbers: *mut u32,
+        places: usize,
+    ) -> u8;
 }
 
 // libhall_page.a
@@ -75,7 +81,7 @@ extern "C" {
 }
 
 const _: () = {
-    assert!(size_of::<Drive>() == 44 && align_of::<Drive>() == 2);
+    assert!(size_of::<Drive>() == 46 && align_of::<Drive>() == 2);
     assert!(size_of::<Commands>() == 8);
     assert!(size_of::<Run>() == 2);
     assert!(size_of::<Last>() == 3);
@@ -96,10 +102,11 @@ const _: () = {
     assert!(offset_of!(Drive, last.reported) == 40);
     assert!(offset_of!(Drive, last.position) == 41);
     assert!(offset_of!(Drive, last.status) == 42);
+    assert!(offset_of!(Drive, wait) == 44);
 
     assert!(size_of::<Stepped>() == 52 && align_of::<Stepped>() == 4);
     assert!(offset_of!(Stepped, drive) == 0);
-    assert!(offset_of!(Stepped, word) == 44);
+    assert!(offset_of!(Stepped, word) == 46);
     assert!(offset_of!(Stepped, code) == 48);
 
     assert!(size_of::<Found>() == 5 && align_of::<Found>() == 1);
@@ -181,10 +188,10 @@ pub fn hall_event(row: &mut [Drive], list: &[u32], bytes: &[u8], answers: &mut [
 }
 
 #[inline]
-pub fn hall_tick(row: &mut [Drive], numbers: &mut [u32]) -> u8 {
+pub fn hall_tick(row: &mut [Drive], quota: u32, numbers: &mut [u32]) -> u8 {
     // SAFETY: each pointer goes with the length of its slice, and two that are lent mutably do not overlap;
     // any bytes are a `Drive`.
-    unsafe { damper_hall_tick(row.as_mut_ptr(), row.len(), numbers.as_mut_ptr(), numbers.len()) }
+    unsafe { damper_hall_tick(row.as_mut_ptr(), row.len(), quota, numbers.as_mut_ptr(), numbers.len()) }
 }
 
 #[inline]

@@ -1,4 +1,5 @@
-//! A hall: 1 to 64 drives in one row, worked on where they stand. Document 02, W-201; the shift page is its W-203.
+//! A hall: 1 to 64 drives in one row, worked on where they stand. Document 02, W-201; the shift page is its W-203, the quota its
+//! W-204.
 
 use crate::{exported, Drive, Refusal, Status};
 use core::error::Error;
@@ -42,7 +43,14 @@ pub fn hall_event(
     refused_or_done(exported::hall_event(row, list, bytes, answers))
 }
 
-/// Ticks every drive of the row, in its order.
+/// Ticks every drive of the row and sends at most `quota`, 1 to 64, of the reports that are due, which are those that ticks
+/// given to the drives alone would send.
+///
+/// If any is due, the drive that waited longest is sent, of several the one with the lower number; which others are sent
+/// is not promised. One that is due and not sent moves as at any tick, keeps its last report, and its [`Drive::wait`] rises
+/// by one; sent or not due, it has wait 0. A drive that is due at each of as many hall ticks in a row as the row has
+/// drives, and is not restarted between them, is sent at one of these, provided that nobody else writes the row and its
+/// length stays the same.
 ///
 /// What the tick of drive i gave is the number `numbers[i]`, which [`HallTick::from_number`] reads; further
 /// places keep their content. A call that is refused itself touches nothing.
@@ -52,19 +60,24 @@ pub fn hall_event(
 ///
 /// let mut row = [Drive::fresh(); 3];
 /// row[0].give(Event::WriteParameter(Parameter::MinRepTime, 1));
+/// row[1] = row[0];
 /// row[2].commands.forcing = 9; // not well formed
 /// let mut numbers = [0; 3];
-/// assert_eq!(hall_tick(&mut row, &mut numbers), Ok(()));
+/// assert_eq!(hall_tick(&mut row, 1, &mut numbers), Ok(()));
 /// let [first, second, third] = numbers.map(HallTick::from_number);
 /// assert!(matches!(first, Some(HallTick::Report { position: 0, status }) if status.bus_not_active()));
-/// assert_eq!(second, Some(HallTick::Silent));
+/// assert_eq!((second, row[1].wait), (Some(HallTick::Silent), 1));
 /// assert_eq!(third, Some(HallTick::NotWellFormed));
 ///
-/// assert_eq!(hall_tick(&mut row, &mut numbers[..2]), Err(HallRefusal::Call));
+/// assert_eq!(hall_tick(&mut row, 1, &mut numbers), Ok(()));
+/// assert!(matches!(HallTick::from_number(numbers[1]), Some(HallTick::Report { .. })));
+///
+/// assert_eq!(hall_tick(&mut row, 0, &mut numbers[..2]), Err(HallRefusal::Call));
+/// assert_eq!(hall_tick(&mut row, 0, &mut numbers), Err(HallRefusal::Quota));
 /// ```
 #[inline]
-pub fn hall_tick(row: &mut [Drive], numbers: &mut [u32]) -> Result<(), HallRefusal> {
-    refused_or_done(exported::hall_tick(row, numbers))
+pub fn hall_tick(row: &mut [Drive], quota: u32, numbers: &mut [u32]) -> Result<(), HallRefusal> {
+    refused_or_done(exported::hall_tick(row, quota, numbers))
 }
 
 /// Writes the shift page, a line of [`HALL_LINE`] bytes for each drive of the row, in its order.
@@ -119,14 +132,16 @@ pub enum HallRefusal {
     Call,
     /// The page has fewer than [`HALL_LINE`] bytes for each drive.
     Page,
+    /// The quota is not 1 to 64.
+    Quota,
 }
 
 impl HallRefusal {
-    /// 14 to 17.
-    pub const ALL: [HallRefusal; 4] =
-        [HallRefusal::Row, HallRefusal::Number, HallRefusal::Call, HallRefusal::Page];
+    /// 14 to 18.
+    pub const ALL: [HallRefusal; 5] =
+        [HallRefusal::Row, HallRefusal::Number, HallRefusal::Call, HallRefusal::Page, HallRefusal::Quota];
 
-    /// Document 02's number, 14 to 17.
+    /// Document 02's number, 14 to 18.
     pub const fn number(self) -> u8 {
         self as u8
     }
@@ -144,6 +159,7 @@ impl fmt::Display for HallRefusal {
             HallRefusal::Number => "a listed drive is not in the row",
             HallRefusal::Call => "a tick by list, over 64 entries, or too few places for the answers",
             HallRefusal::Page => "the page has fewer than 29 bytes for each drive",
+            HallRefusal::Quota => "the quota is not 1 to 64",
         })
     }
 }
@@ -180,7 +196,7 @@ impl HallAnswer {
 /// What a hall tick gave for one drive.
 #[derive(Clone, Copy, PartialEq, Eq, Hash, Debug)]
 pub enum HallTick {
-    /// 0: ticked, without a report.
+    /// 0: ticked, without a report: none is due, or it is held.
     Silent,
     /// 1: the record is not well formed and was not ticked.
     NotWellFormed,
@@ -226,7 +242,7 @@ mod tests {
         }
         for number in 0..=255 {
             let refusal = HallRefusal::numbered(number);
-            assert_eq!(refusal.is_some(), (14..=17).contains(&number));
+            assert_eq!(refusal.is_some(), (14..=18).contains(&number));
             assert!(refusal.is_none_or(|refusal| refusal.number() == number));
         }
     }
@@ -275,18 +291,22 @@ mod tests {
         assert_eq!(event(8, &[0; 65], &calibration, 65), Err(HallRefusal::Call));
         assert_eq!(event(8, &[0; 2], &calibration, 1), Err(HallRefusal::Call));
 
-        let ticked = |drives: usize, places: usize| {
+        let ticked = |drives: usize, quota: u32, places: usize| {
             let (mut row, mut numbers) = ([Drive::fresh(); 65], [0xEEEE_EEEE; 65]);
-            let result = hall_tick(&mut row[..drives], &mut numbers[..places]);
+            let result = hall_tick(&mut row[..drives], quota, &mut numbers[..places]);
             if result.is_err() {
                 assert_eq!((row, numbers), ([Drive::fresh(); 65], [0xEEEE_EEEE; 65]));
             }
             result
         };
-        assert_eq!(ticked(0, 0), Err(HallRefusal::Row));
-        assert_eq!(ticked(65, 64), Err(HallRefusal::Row));
-        assert_eq!(ticked(64, 63), Err(HallRefusal::Call));
-        assert_eq!(ticked(64, 64), Ok(()));
+        assert_eq!(ticked(0, 0, 0), Err(HallRefusal::Row));
+        assert_eq!(ticked(65, 65, 64), Err(HallRefusal::Row));
+        assert_eq!(ticked(64, 0, 63), Err(HallRefusal::Call));
+        assert_eq!(ticked(64, 0, 64), Err(HallRefusal::Quota));
+        assert_eq!(ticked(64, 65, 64), Err(HallRefusal::Quota));
+        assert_eq!(ticked(64, 257, 64), Err(HallRefusal::Quota));
+        assert_eq!(ticked(64, 1, 64), Ok(()));
+        assert_eq!(ticked(64, 64, 64), Ok(()));
     }
 
     /// The calls are the single events, drive by drive.
@@ -314,19 +334,20 @@ mod tests {
             }
             assert_eq!((row, answers[4]), (alone, 0xEE));
 
-            let mut numbers = [0xEEEE_EEEE; 5];
-            assert_eq!(hall_tick(&mut row, &mut numbers), Ok(()));
-            for (drive, number) in alone.iter_mut().zip(numbers) {
-                let expected = match drive.give(Event::Tick) {
+            // One at a time, so that each report that is due goes.
+            for (drive, alone) in row.iter_mut().zip(&mut alone) {
+                let mut numbers = [0xEEEE_EEEE; 2];
+                assert_eq!(hall_tick(core::slice::from_mut(drive), 1, &mut numbers), Ok(()));
+                let expected = match alone.give(Event::Tick) {
                     Answer::Tick { position, report: Some(status), .. } => {
                         HallTick::Report { position, status }
                     }
                     Answer::Tick { .. } => HallTick::Silent,
                     _ => HallTick::NotWellFormed,
                 };
-                assert_eq!(HallTick::from_number(number), Some(expected));
+                assert_eq!(HallTick::from_number(numbers[0]), Some(expected));
+                assert_eq!((*drive, numbers[1]), (*alone, 0xEEEE_EEEE));
             }
-            assert_eq!((row, numbers[4]), (alone, 0xEEEE_EEEE));
         }
     }
 }

@@ -21,7 +21,7 @@
 //! assert_eq!(drive.step(&[0x5A, 0xC3, 6, 2, 0, 0]), Answer::Refused(Refusal::Value));
 //!
 //! // Through storage and back.
-//! let stored: [u8; 44] = drive.to_bytes();
+//! let stored: [u8; 46] = drive.to_bytes();
 //! assert_eq!(Drive::restore(stored), Ok(drive));
 //! ```
 //!

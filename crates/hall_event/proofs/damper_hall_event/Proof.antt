@@ -56,6 +56,7 @@ use Rattle.damper.specs.Step.{stepOf}
 use Rattle.damper.proofs.Drive as T
 use Rattle.damper.proofs.Drive.Laws as T′
 use Rattle.hall.specs.Hall.{Call, give, callRefusal, Turn, turnsOf, at, rowAfter, answersAfter}
+use Rattle.hall.specs.Quota.{hallStep}
 use Rattle.hall.specs.Laws.{Turns, give-turns, turns-most, row-length, rowBy, answersBy, row-start, answers-start, row-by-length, answers-by-length, row-turn, answers-turn, row-end, answers-end, answers-end-length}
 use Rattle.hall_event.specs.declared.Given.{Given as Given′}
 use Rattle.hall_event.proofs.Given as O
@@ -87,7 +88,7 @@ R = T.the-row
 
 -- how many bytes a drive takes
 abbrev size : ℕ
-size = 44
+size = 46
 
 abbrev stayed : Stays (f.ended .signature .params) (f.ended .kept)
 stayed = (stay-slice (0 ∷ []) tt (plain (λ _. R)), (stay-none-slice (1 ∷ []) tt (plain (λ _. u32)) yes, (stay-none-slice (2 ∷ []) tt (plain (λ _. u8)) yes, (stay-slice (3 ∷ []) tt (plain (λ _. u8)), tt))))
@@ -171,20 +172,20 @@ module _ {M : Type 1} (𝓤 : URA M) (H : Heap 𝓤) (A : Atoms 𝓤) (W : Given
   ts = turnsOf (length ys) call′
 
   abbrev zs₀ : List Drive
-  zs₀ = rowAfter stepOf ys ts
+  zs₀ = rowAfter hallStep ys ts
 
   abbrev zs₃ : List ℕ
-  zs₃ = answersAfter stepOf ys call′ cs
+  zs₃ = answersAfter hallStep ys call′ cs
 
   -- the loop takes n turns, the k-th at the place that entry k names
   abbrev Turned-by : ℕ → Type 0
   Turned-by n = Turns (length ys) (length cs) bs (λ j. getD xs j 0) n ts
 
   len₀ : length zs₀ ≡ length ys
-  len₀ = row-length stepOf ys ts
+  len₀ = row-length hallStep ys ts
 
   len′ : {n : ℕ} → Turned-by n → length zs₃ ≡ length cs
-  len′ w = answers-end-length stepOf ys call′ cs w
+  len′ w = answers-end-length hallStep ys call′ cs w
 
   -- what each function is passed, and what it ensures
   abbrev to-event-refusal : Judge 𝓤 H A mem run .Ghost
@@ -278,21 +279,21 @@ module _ {M : Type 1} (𝓤 : URA M) (H : Heap 𝓤) (A : Atoms 𝓤) (W : Given
       En = (tyInt w8, l₀) ∷ (Ty₀, l₁) ∷ (Ty₁, l₂) ∷ (Ty₂, l₃) ∷ (Ty₃, l₄) ∷ (tyInt w8, l₅) ∷ (tyInt w64, l₆) ∷ (tyInt w64, l₇) ∷ (tyInt w64, l₈) ∷ (O′.mir, l₉) ∷ (tyInt w64, l₁₀) ∷ (tyInt w64, l₁₁) ∷ (tyBool, l₁₂) ∷ (tyInt w64, l₁₃) ∷ (tyPtr, l₁₄) ∷ (T′.mir, l₁₅) ∷ (tyPtr, l₁₆) ∷ (tyPtr, l₁₇) ∷ []
 
       abbrev Row₀ : Upto n → List Drive
-      Row₀ k = rowBy stepOf ys call′ cs (k .0)
+      Row₀ k = rowBy hallStep ys call′ cs (k .0)
 
       abbrev Row₃ : Upto n → List ℕ
-      Row₃ k = answersBy stepOf ys call′ cs (k .0)
+      Row₃ k = answersBy hallStep ys call′ cs (k .0)
 
       abbrev old : Upto n → ℕ → Drive
       old k i = at (Row₀ k) i
 
-      next-row : (k : Upto n) (i : ℕ) (g : Given′) → i ≡ getD xs (k .0) 0 → Said-give-one (old k i) g → k .0 < n → set (Row₀ k) i (g .drive) ≡ rowBy stepOf ys call′ cs (k .0 + 1)
+      next-row : (k : Upto n) (i : ℕ) (g : Given′) → i ≡ getD xs (k .0) 0 → Said-give-one (old k i) g → k .0 < n → set (Row₀ k) i (g .drive) ≡ rowBy hallStep ys call′ cs (k .0 + 1)
       next-row k i g is-entry e less =
-          ap (set (Row₀ k) i) (e .0) ∙ ap (λ (j : ℕ). set (Row₀ k) j (stepOf (old k j) bs .drive)) is-entry ∙ row-turn stepOf ys call′ cs w (k .0) less
+          ap (set (Row₀ k) i) (e .0) ∙ ap (λ (j : ℕ). set (Row₀ k) j (stepOf (old k j) bs .drive)) is-entry ∙ row-turn hallStep ys call′ cs w (k .0) less
 
-      next-answers : (k : Upto n) (i : ℕ) (g : Given′) → i ≡ getD xs (k .0) 0 → Said-give-one (old k i) g → k .0 < n → set (Row₃ k) (k .0) (g .number) ≡ answersBy stepOf ys call′ cs (k .0 + 1)
+      next-answers : (k : Upto n) (i : ℕ) (g : Given′) → i ≡ getD xs (k .0) 0 → Said-give-one (old k i) g → k .0 < n → set (Row₃ k) (k .0) (g .number) ≡ answersBy hallStep ys call′ cs (k .0 + 1)
       next-answers k i g is-entry e less =
-          ap (set (Row₃ k) (k .0)) (e .1) ∙ ap (λ (j : ℕ). set (Row₃ k) (k .0) (numberOf (stepOf (old k j) bs .answer))) is-entry ∙ answers-turn stepOf ys call′ cs w (k .0) less
+          ap (set (Row₃ k) (k .0)) (e .1) ∙ ap (λ (j : ℕ). set (Row₃ k) (k .0) (numberOf (stepOf (old k j) bs .answer))) is-entry ∙ answers-turn hallStep ys call′ cs w (k .0) less
 
       abbrev At : Upto n → List (Item 𝓤)
       At k = ‵ (row R fullShare (Row₀ k) b₀ o₀) ∷ ‵ (row u8 fullShare (Row₃ k) b₃ o₃) ∷ ‵ (fobor κ₀ q₀ (Held R (length ys) b₀ o₀ γ₀)) ∷ ‵ (fobs γ₀ (codedHoleys R .code (heres R ys))) ∷ ‵ (fauth γ₀ (codedHoleys R .code (heres R ys))) ∷ ‵ (fobor κ₃ q₃ (Held u8 (length cs) b₃ o₃ γ₃)) ∷ ‵ (fobs γ₃ (codedHoleys u8 .code (heres u8 cs))) ∷ ‵ (fauth γ₃ (codedHoleys u8 .code (heres u8 cs))) ∷ ‵ (flft κ₁ q₁) ∷ ‵ Own₁ ∷ ‵ (flft κ₂ q₂) ∷ ‵ Own₂ ∷ ‵ (froom tyPtr l₁₇ 0) ∷ ‵ (fdies tyPtr l₁₇) ∷ ‵ (froom tyPtr l₁₆ 0) ∷ ‵ (fdies tyPtr l₁₆) ∷ ‵ (froom T′.mir l₁₅ 0) ∷ ‵ (fdies T′.mir l₁₅) ∷ ‵ (froom tyPtr l₁₄ 0) ∷ ‵ (fdies tyPtr l₁₄) ∷ ‵ (froom (tyInt w64) l₁₃ 0) ∷ ‵ (fdies (tyInt w64) l₁₃) ∷ ‵ (froom tyBool l₁₂ 0) ∷ ‵ (fdies tyBool l₁₂) ∷ ‵ (fat fullShare (tyInt w64) l₁₁ 0 (vint w64 (length cs))) ∷ ‵ (fdies (tyInt w64) l₁₁) ∷ ‵ (fat fullShare (tyInt w64) l₁₀ 0 (vint w64 (length xs))) ∷ ‵ (fdies (tyInt w64) l₁₀) ∷ ‵ (froom O′.mir l₉ 0) ∷ ‵ (fdies O′.mir l₉) ∷ ‵ (froom (tyInt w64) l₈ 0) ∷ ‵ (fdies (tyInt w64) l₈) ∷ ‵ (fat fullShare (tyInt w64) l₇ 0 (vint w64 (k .0))) ∷ ‵ (fdies (tyInt w64) l₇) ∷ ‵ (fat fullShare (tyInt w64) l₆ 0 (vint w64 n)) ∷ ‵ (fdies (tyInt w64) l₆) ∷ ‵ (fat fullShare (tyInt w8) l₅ 0 (vint w8 m)) ∷ ‵ (fdies (tyInt w8) l₅) ∷ ‵ (fat fullShare Ty₃ l₄ 0 s₃) ∷ ‵ (fdies Ty₃ l₄) ∷ ‵ (fat fullShare Ty₂ l₃ 0 s₂) ∷ ‵ (fdies Ty₂ l₃) ∷ ‵ (fat fullShare Ty₁ l₂ 0 s₁) ∷ ‵ (fdies Ty₁ l₂) ∷ ‵ (fat fullShare Ty₀ l₁ 0 s₀) ∷ ‵ (fdies Ty₀ l₁) ∷ ‵ (froom (tyInt w8) l₀ 0) ∷ ‵ (fdies (tyInt w8) l₀) ∷ []
@@ -313,7 +314,7 @@ module _ {M : Type 1} (𝓤 : URA M) (H : Heap 𝓤) (A : Atoms 𝓤) (W : Given
           let in-list : k .0 < length xs = omega (arith, less, listed) in
           let k-fits : k .0 < 2 ^ 64 = omega (arith, less, w .few) in
           let next-fits : k .0 + 1 < 2 ^ 64 = omega (arith, less, w .few) in
-          let within′ : k .0 < length (Row₃ k) = subst (λ (j : ℕ). k .0 < j) (sym (answers-by-length stepOf ys call′ cs w (k .0) (k .1))) (omega (arith, less, w .room)) in
+          let within′ : k .0 < length (Row₃ k) = subst (λ (j : ℕ). k .0 < j) (sym (answers-by-length hallStep ys call′ cs w (k .0) (k .1))) (omega (arith, less, w .room)) in
           skips ! $ exec ! (𝓣 .C) (𝓣 .Λ) En more (anyQ (Turned k)) $
           -- entry k of the list
           move ! (9 ∷ []) $ use1 W (‵ Own₁ ⊛ ‵ Own₁) (shr-slice-copy 𝓤 H A W (named 1) κ₁ u32 .twice (x₁ xs) (s₁ ∷ [])) $ split ! $
@@ -326,7 +327,7 @@ module _ {M : Type 1} (𝓤 : URA M) (H : Heap 𝓤) (A : Atoms 𝓤) (W : Given
           land ! (from ! (stop !)) (init ! 31 refl (uint-lawful 𝓤 H A W w64 .typed i _ is-i .0)) $ rewrite ! 31 (λ (u : Val). ‵ (fat fullShare (tyInt w64) l₈ 0 u)) (ap only (is-i .0)) refl $ drop ! $
           split ! $ move ! (1 ∷ []) $ drop ! $
           let in-row : i < length ys = subst (λ (j : ℕ). j < length ys) (sym is-entry) (w .below (k .0) less) in
-          let within : i < length (Row₀ k) = subst (λ (j : ℕ). i < j) (sym (row-by-length stepOf ys call′ cs w (k .0))) in-row in
+          let within : i < length (Row₀ k) = subst (λ (j : ℕ). i < j) (sym (row-by-length hallStep ys call′ cs w (k .0))) in-row in
           let at-fits : i * size < 2 ^ 64 = omega (arith, in-row, room₀ .1) in
           -- the drive that it names is taken out and given the event
           assigns ! (bin ! (load ! (from ! (stop !)) (look ! 30 refl)) (lit ! tt) (record { fits = at-fits })) (from ! (stop !)) (init ! 20 refl (tt, record { fits = at-fits })) $
@@ -361,15 +362,15 @@ module _ {M : Type 1} (𝓤 : URA M) (H : Heap 𝓤) (A : Atoms 𝓤) (W : Given
           (λ over. let all : k .0 ≡ n = le-antisymm (k .1) (nltb→le (k .0) n over) in
           jumps ! $ exec ! (𝓣 .C) (𝓣 .Λ) En body.t-8 (atRet En Post) $
           assigns ! (of-opd ! (load ! (from ! (stop !)) (look ! 36 refl))) (from ! (stop !)) (init ! 46 refl (tt, record { fits = fits })) $
-          rewrite ! 0 (λ (l : List Drive). ‵ (row R fullShare l b₀ o₀)) (row-end stepOf ys call′ cs w (k .0) all) refl $
-          rewrite ! 1 (λ (l : List ℕ). ‵ (row u8 fullShare l b₃ o₃)) (answers-end stepOf ys call′ cs w (k .0) all) refl $
+          rewrite ! 0 (λ (l : List Drive). ‵ (row R fullShare l b₀ o₀)) (row-end hallStep ys call′ cs w (k .0) all) refl $
+          rewrite ! 1 (λ (l : List ℕ). ‵ (row u8 fullShare l b₃ o₃)) (answers-end hallStep ys call′ cs w (k .0) all) refl $
           move ! (0 ∷ 2 ∷ 3 ∷ 4 ∷ []) $ closes-slice ! tt R ys zs₀ len₀ b₀ o₀ $
           move ! (3 ∷ 4 ∷ 5 ∷ 6 ∷ []) $ closes-slice ! tt u8 cs zs₃ (len′ w) b₃ o₃ $
           returns ! (look ! 44 refl) $ forget ! 20 refl $ forget ! 22 refl $ forget ! 24 refl $ forget ! 30 refl $ forget ! 32 refl $ forget ! 34 refl $ forget ! 36 refl $ forget ! 38 refl $ forget ! 40 refl $ forget ! 42 refl $ forget ! 44 refl $ move ! (44 ∷ 45 ∷ []) $ free1 ! $ move ! (42 ∷ 43 ∷ []) $ free1 ! $ move ! (40 ∷ 41 ∷ []) $ free1 ! $ move ! (38 ∷ 39 ∷ []) $ free1 ! $ move ! (36 ∷ 37 ∷ []) $ free1 ! $ move ! (34 ∷ 35 ∷ []) $ free1 ! $ move ! (32 ∷ 33 ∷ []) $ free1 ! $ move ! (30 ∷ 31 ∷ []) $ free1 ! $ move ! (28 ∷ 29 ∷ []) $ free1 ! $ move ! (26 ∷ 27 ∷ []) $ free1 ! $ move ! (24 ∷ 25 ∷ []) $ free1 ! $ move ! (22 ∷ 23 ∷ []) $ free1 ! $ move ! (20 ∷ 21 ∷ []) $ free1 ! $ move ! (18 ∷ 19 ∷ []) $ free1 ! $ move ! (16 ∷ 17 ∷ []) $ free1 ! $ move ! (14 ∷ 15 ∷ []) $ free1 ! $ move ! (12 ∷ 13 ∷ []) $ free1 ! $ move ! (10 ∷ 11 ∷ []) $ free1 ! $ free0 ! $
           keep ! (3 ∷ 4 ∷ 5 ∷ 6 ∷ 7 ∷ 8 ∷ 9 ∷ 0 ∷ 1 ∷ 2 ∷ []) $ by ! (exits m judged fits (len′ w)))
 
-      looped : Sq W (At (0, zero-le)) (runs (𝓣 .C) (𝓣 .Λ) En body.t-7 (atRet En Post))
-      looped = first ! $ blocks ! $ loops ! 𝓣 (Nearer n) (Nearer-wf n) At turns-walk (0, zero-le)
+      looped : (k : Upto n) → Sq W (At k) (runs (𝓣 .C) (𝓣 .Λ) En body.t-7 (atRet En Post))
+      looped k = first ! $ blocks ! $ loops ! 𝓣 (Nearer n) (Nearer-wf n) At turns-walk k
 
     walk : ent 𝓤 (onEntry 𝓤 H A f.signature (κ₀, (κ₁, (κ₂, (κ₃, tt)))) (q₀, (q₁, (q₂, (q₃, tt)))) a vals) (WpFn 𝓤 H (𝓣 .C) (𝓣 .Λ) code.function (s₀ ∷ s₁ ∷ s₂ ∷ s₃ ∷ []) Post)
     walk =
@@ -408,8 +409,8 @@ module _ {M : Type 1} (𝓤 : URA M) (H : Heap 𝓤) (A : Atoms 𝓤) (W : Given
         move ! (7 ∷ []) $ fsplit ! $ drop ! $ fsplit ! $ move ! (0 ∷ 1 ∷ 7 ∷ []) $ opens-slice ! tt R ys b₀ o₀ $
         move ! (9 ∷ []) $ fsplit ! $ drop ! $ fsplit ! $ move ! (0 ∷ 1 ∷ 10 ∷ []) $ opens-slice ! tt u8 cs b₃ o₃ $
         keep ! (4 ∷ 0 ∷ 5 ∷ 6 ∷ 7 ∷ 1 ∷ 2 ∷ 3 ∷ 9 ∷ 11 ∷ 8 ∷ 10 ∷ 12 ∷ 13 ∷ 14 ∷ 15 ∷ 16 ∷ 17 ∷ 18 ∷ 19 ∷ 20 ∷ 21 ∷ 22 ∷ 23 ∷ 24 ∷ 25 ∷ 26 ∷ 27 ∷ 28 ∷ 29 ∷ 30 ∷ 31 ∷ 32 ∷ 33 ∷ 34 ∷ 35 ∷ 36 ∷ 37 ∷ 38 ∷ 39 ∷ 40 ∷ 41 ∷ 42 ∷ 43 ∷ 44 ∷ 45 ∷ 46 ∷ 47 ∷ []) $
-        rewrite ! 0 (λ (l : List Drive). ‵ (row R fullShare l b₀ o₀)) (row-start stepOf ys call′ cs) refl $ rewrite ! 1 (λ (l : List ℕ). ‵ (row u8 fullShare l b₃ o₃)) (answers-start stepOf ys call′ cs) refl $
-        looped n w listed m judged (is-m .1) l₀ l₁ l₂ l₃ l₄ l₅ l₆ l₇ l₈ l₉ l₁₀ l₁₁ l₁₂ l₁₃ l₁₄ l₁₅ l₁₆ l₁₇))))))))))))))))))))))))))
+        rewrite ! 0 (λ (l : List Drive). ‵ (row R fullShare l b₀ o₀)) (row-start hallStep ys call′ cs) refl $ rewrite ! 1 (λ (l : List ℕ). ‵ (row u8 fullShare l b₃ o₃)) (answers-start hallStep ys call′ cs) refl $
+        looped n w listed m judged (is-m .1) l₀ l₁ l₂ l₃ l₄ l₅ l₆ l₇ l₈ l₉ l₁₀ l₁₁ l₁₂ l₁₃ l₁₄ l₁₅ l₁₆ l₁₇ (0, zero-le)))))))))))))))))))))))))))
 
 module _ {M : Type 1} (𝓤 : URA M) (H : Heap 𝓤) (A : Atoms 𝓤) (W : Given 𝓤 H A) (mem : Memory → SProp 𝓤) (run : Routine → Fun 𝓤) where
   walks : (𝓣 : Tables 𝓤 H) → Triple 𝓤 (𝓣 .C #event-refusal) (Judge 𝓤 H A mem run) → Triple 𝓤 (𝓣 .C #turns) (Count 𝓤 H A mem run) → Triple 𝓤 (𝓣 .C #entry) (Entry 𝓤 H A mem run) → Triple 𝓤 (𝓣 .C #give-one) (Give 𝓤 H A mem run) → Walks 𝓤 H A f.ended stayed (WpFn 𝓤 H (𝓣 .C) (𝓣 .Λ) code.function) (f.clauses 𝓤 H A mem run)

@@ -83,7 +83,7 @@ R = T.the-row
 
 -- how many bytes a drive takes
 abbrev size : ℕ
-size = 44
+size = 46
 
 abbrev stayed : Stays (f.ended .signature .params) (f.ended .kept)
 stayed = (stay-none-slice (0 ∷ []) tt (plain (λ _. R)) yes, (stay-slice (1 ∷ []) tt (plain (λ _. u8)), tt))
@@ -267,7 +267,7 @@ module _ {M : Type 1} (𝓤 : URA M) (H : Heap 𝓤) (A : Atoms 𝓤) (W : Given
           lft-new ! tt (λ ν.
           move ! (3 ∷ []) $ use1 W (‵ (cells (cell-of u8) (Row₁ k) b₁ o₁)) (whole-in 𝓤 H A W u8 (Row₁ k) b₁ o₁) $
           use1 W (later (some (λ (δ : GName). ‵ (MutSlice (named 0) (ν ∷ []) u8 .own (lent₁ δ (Row₁ k)) (sliceVal (b₁, o₁) (length (Row₁ k)) ∷ [])) ⊛ ‵ (flent (ν ∷ []) (Held u8 (length (Row₁ k)) b₁ o₁ δ))))) (lends-slice 𝓤 H A W u8 (named 0) (ν ∷ []) (Row₁ k) b₁ o₁ (subst (Room u8) (sym same′) room₁)) $ await ! tt $ pick ! (λ δ.
-          split ! $ rewrite ! 0 (λ (n : ℕ). ‵ (MutSlice (named 0) (ν ∷ []) u8 .own (lent₁ δ (Row₁ k)) (sliceVal (b₁, o₁) n ∷ []))) same′ refl $
+          split ! $ rewrite ! 0 (λ (size′ : ℕ). ‵ (MutSlice (named 0) (ν ∷ []) u8 .own (lent₁ δ (Row₁ k)) (sliceVal (b₁, o₁) size′ ∷ []))) same′ refl $
           nothing ! $ move ! (4 ∷ 0 ∷ []) $ fjoin ! $ owned ! usize (Is usize) (uint-makes 𝓤 H A W w64) (k .0) _ (refl, k-fits) $ fjoin ! $ owned ! usize (Is usize) (uint-makes 𝓤 H A W w64) (29 * k .0) _ (refl, end-fits) $ fjoin ! $ move ! (1 ∷ 0 ∷ []) $ fjoin ! $ nothing ! $ move ! (3 ∷ 0 ∷ []) $ join ! $
           use2 W (raw (Put 𝓤 H A mem run .pre (to-put-drive ν δ (Row₁ k) (29 * k .0) (k .0) (drive k)))) (asked-put-drive ν δ (Row₁ k) (29 * k .0) (k .0) (drive k) (small, room)) $
           calls-at ! (fmOf 𝓤 H (W .laws) 𝓣) (Put 𝓤 H A mem run) known-put-drive (to-put-drive ν δ (Row₁ k) (29 * k .0) (k .0) (drive k)) (and-then ! (load ! (from ! (stop !)) (look ! 15 refl)) (and-then ! (load ! (from ! (stop !)) (look ! 25 refl)) (and-then ! (load ! (from ! (stop !)) (look ! 27 refl)) (and-then ! (load ! (from ! (stop !)) (look ! 9 refl)) (no-more !))))) (λ v.
@@ -295,8 +295,8 @@ module _ {M : Type 1} (𝓤 : URA M) (H : Heap 𝓤) (A : Atoms 𝓤) (W : Given
           returns ! (look ! 33 refl) $ forget ! 15 refl $ forget ! 17 refl $ forget ! 19 refl $ forget ! 21 refl $ forget ! 23 refl $ forget ! 25 refl $ forget ! 27 refl $ forget ! 29 refl $ forget ! 31 refl $ forget ! 33 refl $ move ! (33 ∷ 34 ∷ []) $ free1 ! $ move ! (31 ∷ 32 ∷ []) $ free1 ! $ move ! (29 ∷ 30 ∷ []) $ free1 ! $ move ! (27 ∷ 28 ∷ []) $ free1 ! $ move ! (25 ∷ 26 ∷ []) $ free1 ! $ move ! (23 ∷ 24 ∷ []) $ free1 ! $ move ! (21 ∷ 22 ∷ []) $ free1 ! $ move ! (19 ∷ 20 ∷ []) $ free1 ! $ move ! (17 ∷ 18 ∷ []) $ free1 ! $ move ! (15 ∷ 16 ∷ []) $ free1 ! $ move ! (13 ∷ 14 ∷ []) $ free1 ! $ move ! (11 ∷ 12 ∷ []) $ free1 ! $ move ! (9 ∷ 10 ∷ []) $ free1 ! $ move ! (7 ∷ 8 ∷ []) $ free1 ! $ move ! (5 ∷ 6 ∷ []) $ free1 ! $ free0 ! $
           keep ! (1 ∷ 0 ∷ 2 ∷ 3 ∷ 4 ∷ []) $ by ! (exits m judged fits (len′ w)))
 
-      looped : Sq W (At (0, zero-le)) (runs (𝓣 .C) (𝓣 .Λ) En body.t-8 (atRet En Post))
-      looped = first ! $ blocks ! $ loops ! 𝓣 (Nearer n) (Nearer-wf n) At turns-walk (0, zero-le)
+      looped : (k : Upto n) → Sq W (At k) (runs (𝓣 .C) (𝓣 .Λ) En body.t-8 (atRet En Post))
+      looped k = first ! $ blocks ! $ loops ! 𝓣 (Nearer n) (Nearer-wf n) At turns-walk k
 
     walk : ent 𝓤 (onEntry 𝓤 H A f.signature (κ₀, (κ₁, tt)) (q₀, (q₁, tt)) a vals) (WpFn 𝓤 H (𝓣 .C) (𝓣 .Λ) code.function (s₀ ∷ s₁ ∷ []) Post)
     walk =
@@ -332,7 +332,7 @@ module _ {M : Type 1} (𝓤 : URA M) (H : Heap 𝓤) (A : Atoms 𝓤) (W : Given
         move ! (5 ∷ []) $ fsplit ! $ drop ! $ fsplit ! $ move ! (1 ∷ 6 ∷ []) $ looks-slice ! tt R (Is R) (shows 𝓤 H A R) (LL.vals T.the-type T′.the-laws) (LL.tells T.the-type T′.the-laws) (LL.copy T.the-type T′.the-copy 𝓤 H A W) ys b₀ o₀ (λ part.
         keep ! (4 ∷ 5 ∷ 6 ∷ 7 ∷ 0 ∷ 1 ∷ 2 ∷ 3 ∷ 8 ∷ 9 ∷ 10 ∷ 11 ∷ 12 ∷ 13 ∷ 14 ∷ 15 ∷ 16 ∷ 17 ∷ 18 ∷ 19 ∷ 20 ∷ 21 ∷ 22 ∷ 23 ∷ 24 ∷ 25 ∷ 26 ∷ 27 ∷ 28 ∷ 29 ∷ 30 ∷ 31 ∷ 32 ∷ 33 ∷ 34 ∷ 35 ∷ 36 ∷ 37 ∷ []) $
         rewrite ! 0 (λ (l : List ℕ). ‵ (row u8 fullShare l b₁ o₁)) (page-start ys cs) refl $
-        looped n w part m judged (is-m .1) l₀ l₁ l₂ l₃ l₄ l₅ l₆ l₇ l₈ l₉ l₁₀ l₁₁ l₁₂ l₁₃ l₁₄))))))))))))))))))))))))
+        looped n w part m judged (is-m .1) l₀ l₁ l₂ l₃ l₄ l₅ l₆ l₇ l₈ l₉ l₁₀ l₁₁ l₁₂ l₁₃ l₁₄ (0, zero-le)))))))))))))))))))))))))
 
 module _ {M : Type 1} (𝓤 : URA M) (H : Heap 𝓤) (A : Atoms 𝓤) (W : Given 𝓤 H A) (mem : Memory → SProp 𝓤) (run : Routine → Fun 𝓤) where
   walks : (𝓣 : Tables 𝓤 H) → Triple 𝓤 (𝓣 .C #page-refusal) (Judge 𝓤 H A mem run) → Triple 𝓤 (𝓣 .C #turns) (Count 𝓤 H A mem run) → Triple 𝓤 (𝓣 .C #put-drive) (Put 𝓤 H A mem run) → Walks 𝓤 H A f.ended stayed (WpFn 𝓤 H (𝓣 .C) (𝓣 .Λ) code.function) (f.clauses 𝓤 H A mem run)

@@ -1,7 +1,8 @@
 //! What a run on halls met. Counted on the second implementation's side.
 
+use crate::check::Turn;
 use crate::event::Event;
-use crate::hall::LINE;
+use crate::hall::{numbers_of, Drives, Ticked, LINE};
 use crate::table::Param;
 use damper::{Drive, HallTick};
 use std::cmp::Ordering;
@@ -32,11 +33,19 @@ counters! {
     event_16: "event call refused by 16",
     tick_14: "hall tick refused by 14",
     tick_16: "hall tick refused by 16",
+    tick_18_none: "hall tick refused by 18, quota 0",
+    tick_18_over: "hall tick refused by 18, quota over 64",
+    tick_18_by_one: "hall tick refused by 18, quota 65",
+    tick_18_cut: "hall tick refused by 18, quota 1 to 64 if cut to a byte",
+    tick_18_cut_16: "hall tick refused by 18, quota 1 to 64 if cut to 16 bits",
     fit_14_15: "14 and 15 fit, not 16",
     fit_14_16: "14 and 16 fit, not 15",
     fit_15_16: "15 and 16 fit, not 14",
     fit_all: "14, 15 and 16 fit",
-    tick_fit_14_16: "hall tick: 14 and 16 fit",
+    tick_fit_14_16: "hall tick: 14 and 16 fit, not 18",
+    tick_fit_14_18: "hall tick: 14 and 18 fit, not 16",
+    tick_fit_16_18: "hall tick: 16 and 18 fit, not 14",
+    tick_fit_all: "hall tick: 14, 16 and 18 fit",
     only_tick: "16 for an accepted tick alone",
     only_entries: "16 for over 64 entries alone",
     only_places: "16 for a short answer row alone",
@@ -66,7 +75,41 @@ counters! {
     silent: "tick silent",
     report: "tick with a report",
     not_well_formed: "tick of a drive not well formed",
+    ticked: "hall tick given",
+    quota_1: "hall tick with quota 1 given",
+    quota_64: "hall tick with quota 64 given",
+    none_due: "hall tick with none due",
+    one_due: "hall tick with one due",
+    all_due: "hall tick with all of two or more due",
+    due_over_quota: "hall tick with more due than the quota",
+    due_as_quota: "hall tick with as many due as the quota",
+    due_below_quota: "hall tick with fewer due than the quota",
+    tie: "hall tick with two longest waits above 0, not all due sent",
+    tie_at_0: "hall tick with two or more due, all waits 0, not all due sent",
+    longest_not_lowest: "hall tick whose longest waiting is not the lowest due",
+    longest_not_due: "hall tick with a longer wait of a drive not due",
+    longest_broken: "hall tick with a longer wait of a drive not well formed",
+    longest_younger: "hall tick with a due drive of shorter wait and longer since than the longest waiting",
+    longest_at_cap: "hall tick with longest wait 65,535 behind a due 65,534",
+    sent: "due drive sent",
+    held: "due drive held",
+    held_again: "due drive held at two hall ticks in a row",
+    due_by_this_tick: "drive due by this tick, since too low before",
+    wait_at_cap: "wait staying at 65,535",
+    wait_to_cap: "wait coming to 65,535",
+    wait_of_not_due: "wait above 0 cleared as not due",
+    wait_of_sent: "wait above 0 cleared as sent",
+    wait_of_broken: "wait above 0 of a drive not well formed kept at a hall tick",
+    wait_of_restarted: "wait above 0 cleared by restart",
+    wait_of_others: "wait above 0 kept at another accepted event",
+    wait_of_refused: "wait above 0 kept at a refused event",
+    restart_refused: "wait above 0 kept at a refused restart",
+    restart_between: "drive restarted between two hall ticks, the first of which held it",
+    last_turn: "drive sent at the last hall tick possible, in a row of two or more",
+    last_turn_events: "the same with an event to it in between",
+    last_turn_refused: "the same with a refused hall tick in between",
     shares: "share of a fresh drive, checked",
+    shares_held: "share of a fresh drive, held at its last hall tick",
     page_14: "page refused by 14",
     page_17: "page refused by 17",
     page_fit_14_17: "page: 14 and 17 fit",
@@ -213,6 +256,16 @@ impl HallCover {
         for &answer in answers {
             self.answers[usize::from(answer)] += 1;
         }
+        let restart = Event::from_bytes(bytes) == Ok(Event::Restart);
+        for (&number, &answer) in
+            list.iter().zip(answers).filter(|(number, _)| row[**number as usize].wait > 0)
+        {
+            let kept = row[number as usize].wait == after[number as usize].wait;
+            add(&mut self.wait_of_restarted, restart && answer == 0 && !kept);
+            add(&mut self.wait_of_others, !restart && answer == 0 && kept);
+            add(&mut self.wait_of_refused, answer != 0 && kept);
+            add(&mut self.restart_refused, restart && answer != 0 && kept);
+        }
         let mut listed = [false; 64];
         let again = |&&number: &&u32| std::mem::replace(&mut listed[number as usize], true);
         let repeats: Vec<_> = list.iter().filter(again).map(|&number| number as usize).collect();
@@ -220,12 +273,30 @@ impl HallCover {
         add(&mut self.twice_changed, repeats.iter().any(|&number| row[number] != after[number]));
     }
 
-    /// A hall tick: what it was refused by or 0, and its numbers.
-    pub fn tick(&mut self, drives: usize, places: usize, refusal: u8, numbers: &[u32]) {
+    /// A hall tick on a row: what it was refused by or 0 and which drives were due, its numbers, which drives
+    /// were sent, and the turns before it.
+    pub fn tick(
+        &mut self,
+        row: &[Drive],
+        (quota, places): (u32, usize),
+        ticked: &Ticked,
+        (numbers, sent): (&[u32], Drives),
+        turns: &[Turn],
+    ) {
+        let (drives, refusal) = (row.len(), ticked.refusal);
+        let fits = (!(1..=64).contains(&drives), places < drives, !(1..=64).contains(&quota));
         self.row(drives, refusal);
         add(&mut self.tick_14, refusal == 14);
         add(&mut self.tick_16, refusal == 16);
-        add(&mut self.tick_fit_14_16, refusal == 14 && places < drives);
+        add(&mut self.tick_18_none, refusal == 18 && quota == 0);
+        add(&mut self.tick_18_over, refusal == 18 && quota > 64);
+        add(&mut self.tick_18_by_one, refusal == 18 && quota == 65);
+        add(&mut self.tick_18_cut, refusal == 18 && (1..=64).contains(&(quota as u8)));
+        add(&mut self.tick_18_cut_16, refusal == 18 && (1..=64).contains(&(quota as u16)));
+        add(&mut self.tick_fit_14_16, fits == (true, true, false));
+        add(&mut self.tick_fit_14_18, fits == (true, false, true));
+        add(&mut self.tick_fit_16_18, fits == (false, true, true));
+        add(&mut self.tick_fit_all, fits == (true, true, true));
         match places.cmp(&drives) {
             Ordering::Less => self.numbers_shorter += 1,
             Ordering::Equal => self.numbers_equal += 1,
@@ -240,6 +311,69 @@ impl HallCover {
         self.silent += silent as u64;
         self.report += (drives - broken - silent) as u64;
         add(&mut self.mixed_row, broken > 0 && broken < drives);
+        self.choice(row, quota, ticked.due, numbers, sent);
+        self.waits(row, ticked.due, numbers, sent);
+        for i in numbers_of(ticked.due) {
+            let (goes, before) = (sent >> i & 1 == 1, turns[i].count());
+            add(&mut self.held_again, !goes && before > 0);
+            add(&mut self.restart_between, !goes && turns[i].is_broken_off());
+            if goes && drives > 1 && before + 1 == drives {
+                self.last_turn += 1;
+                add(&mut self.last_turn_events, turns[i].has_event());
+                add(&mut self.last_turn_refused, turns[i].has_refused_tick());
+            }
+        }
+    }
+
+    /// Who is due, and who of them goes.
+    fn choice(&mut self, row: &[Drive], quota: u32, due: Drives, numbers: &[u32], sent: Drives) {
+        self.ticked += 1;
+        let many = due.count_ones();
+        add(&mut self.quota_1, quota == 1);
+        add(&mut self.quota_64, quota == 64);
+        add(&mut self.none_due, many == 0);
+        add(&mut self.one_due, many == 1);
+        add(&mut self.all_due, many > 1 && many as usize == row.len());
+        if many == 0 {
+            return;
+        }
+        match many.cmp(&quota) {
+            Ordering::Less => self.due_below_quota += 1,
+            Ordering::Equal => self.due_as_quota += 1,
+            Ordering::Greater => self.due_over_quota += 1,
+        }
+        let wait = numbers_of(due).map(|i| row[i].wait).max().unwrap_or(0);
+        let longest: Vec<_> = numbers_of(due).filter(|&i| row[i].wait == wait).collect();
+        let not_all = sent != due;
+        add(&mut self.tie, longest.len() > 1 && wait > 0 && not_all);
+        add(&mut self.tie_at_0, longest.len() > 1 && wait == 0 && not_all);
+        add(&mut self.longest_not_lowest, longest[0] > due.trailing_zeros() as usize);
+        let longer = |number: u32| {
+            let others = row.iter().zip(numbers).enumerate().filter(|(i, _)| due >> i & 1 == 0);
+            others.into_iter().any(|(_, (drive, &is))| is == number && drive.wait > wait)
+        };
+        add(&mut self.longest_not_due, longer(0));
+        add(&mut self.longest_broken, longer(1));
+        let younger = |i: usize| row[i].wait < wait && row[i].since > row[longest[0]].since;
+        add(&mut self.longest_younger, numbers_of(due).any(younger));
+        let just_below = |i: usize| i < longest[0] && row[i].wait == u16::MAX - 1;
+        add(&mut self.longest_at_cap, wait == u16::MAX && numbers_of(due).any(just_below));
+    }
+
+    /// What a hall tick makes of the waits.
+    fn waits(&mut self, row: &[Drive], due: Drives, numbers: &[u32], sent: Drives) {
+        for (i, (drive, &number)) in row.iter().zip(numbers).enumerate() {
+            let (is_due, goes) = (due >> i & 1 == 1, sent >> i & 1 == 1);
+            add(&mut self.sent, goes);
+            add(&mut self.held, is_due && !goes);
+            add(&mut self.due_by_this_tick, is_due && drive.since < drive.params[Param::MinRepTime as usize]);
+            add(&mut self.wait_at_cap, is_due && !goes && drive.wait == u16::MAX);
+            add(&mut self.wait_to_cap, is_due && !goes && drive.wait == u16::MAX - 1);
+            let broken = number == HallTick::NotWellFormed.to_number();
+            add(&mut self.wait_of_sent, goes && drive.wait > 0);
+            add(&mut self.wait_of_broken, broken && drive.wait > 0);
+            add(&mut self.wait_of_not_due, !is_due && !broken && drive.wait > 0);
+        }
     }
 
     /// A page call: what it was refused by or 0, and the page after it.
@@ -280,8 +414,9 @@ impl HallCover {
         }
     }
 
-    /// Shares that a hall's life brought to the checker of demand 3.
-    pub fn shares(&mut self, checked: u64) {
-        self.shares += checked;
+    /// A share that a hall's life brought to the checker of demand 3; whether its drive is held at the end.
+    pub fn share(&mut self, held: bool) {
+        self.shares += 1;
+        add(&mut self.shares_held, held);
     }
 }

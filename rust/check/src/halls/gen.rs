@@ -1,16 +1,17 @@
 //! Random halls and the calls that they live through. The same seed gives the same ones.
 
-use crate::gen::{Bytes, Gen};
+use crate::gen::{write, Bytes, Gen};
 use crate::hall::LINE;
 use crate::model::Model;
 use crate::subject::Subject;
+use crate::table::Param;
 use damper::Drive;
 
 /// A call on a hall, with the length of the row that is lent for its answers, or of the page.
 #[derive(Clone, Debug)]
 pub enum Call {
     Event { list: Vec<u32>, bytes: Bytes, places: usize },
-    Tick { places: usize },
+    Tick { quota: u32, places: usize },
     Page { bytes: usize },
 }
 
@@ -18,11 +19,17 @@ pub struct HallGen {
     gen: Gen,
     /// Ticks left of a burst.
     burst: u32,
+    /// Events to all drives that the calls of a busy hall begin with.
+    opening: Vec<Bytes>,
+    /// Nearly all drives are due at every tick, and most calls are ticks.
+    busy: bool,
+    /// Most ticks have this quota; 0 for any.
+    quota: u32,
 }
 
 impl HallGen {
     pub fn new(seed: u64) -> HallGen {
-        HallGen { gen: Gen::new(seed), burst: 0 }
+        HallGen { gen: Gen::new(seed), burst: 0, opening: Vec::new(), busy: false, quota: 0 }
     }
 
     /// The row of a hall, at times one that 14 refuses, and how many calls it lives through.
@@ -34,15 +41,18 @@ impl HallGen {
             3..6 => 65,
             6 => 66 + rng.below(64),
             7..10 => 256 + rng.below(65),
-            10..16 => 1,
-            16..22 => 64,
-            22..42 => 2 + rng.below(7),
+            10..15 => 1,
+            15..18 => 2,
+            18..21 => 3,
+            21..26 => 64,
+            26..44 => 2 + rng.below(7),
             _ => 1 + rng.below(64),
         };
-        let calls = match rng.below(8) {
-            _ if drives == 0 || drives > 64 => 1 + rng.below(300),
-            0..4 => 10 + rng.below(100),
-            4..7 => 100 + rng.below(400),
+        let calls = match rng.below(24) {
+            _ if drives == 0 || drives > 64 => 1 + rng.below(120),
+            0..14 => 2 + rng.below(12),
+            14..20 => 10 + rng.below(100),
+            20..23 => 100 + rng.below(400),
             _ => 500 + rng.below(2000),
         };
         let all_fresh = rng.once_in(4);
@@ -52,34 +62,93 @@ impl HallGen {
             4 | 5 => self.gen.record(),
             _ => self.gen.any_record().1,
         };
-        ((0..drives).map(drive).collect(), calls)
+        let mut row: Vec<_> = (0..drives).map(drive).collect();
+        self.mood(&mut row);
+        (row, calls)
+    }
+
+    /// How busy a hall is, its usual quota, and waits of which many are equal.
+    fn mood(&mut self, row: &mut [Drive]) {
+        self.opening.clear();
+        self.busy = self.gen.rng.once_in(3);
+        self.quota = self.gen.rng.pick(&[1, 1, 1, 2, 3, 8, 64, 0]);
+        let rng = &mut self.gen.rng;
+        let (least, most) = rng.pick(&[(0, 2), (5, 5), (0, 65_535), (65_533, 65_535), (65_534, 65_535)]);
+        let alike = rng.once_in(2);
+        let (min_rep_time, rep_per) = (rng.pick(&[1, 1, 1, 2]), rng.pick(&[1, 1, 2, 3]));
+        let calm = rng.pick(&[2, 12, 40]);
+        for drive in row.iter_mut().filter(|drive| **drive != Model.fresh()) {
+            if alike {
+                drive.wait = self.gen.rng.between(least, most);
+            }
+            if self.busy && !self.gen.rng.once_in(calm) {
+                drive.params[Param::MinRepTime as usize] = min_rep_time;
+                drive.params[Param::RepPer as usize] = rep_per;
+            }
+        }
+        if self.busy {
+            self.opening.push(write(Param::MinRepTime, min_rep_time));
+            self.opening.push(write(Param::RepPer, rep_per));
+            if self.gen.rng.once_in(2) {
+                self.opening.push(Bytes::event(2, self.gen.rng.byte(), 0, 0));
+            }
+        }
     }
 
     /// The next call, the hall being as in `row` or about so.
     pub fn call(&mut self, row: &[Drive]) -> Call {
+        if let Some(bytes) = self.opening.pop() {
+            let list: Vec<_> = (0..row.len().min(64) as u32).collect();
+            let places = list.len();
+            return Call::Event { list, bytes, places };
+        }
         let rng = &mut self.gen.rng;
         if rng.once_in(if (1..=64).contains(&row.len()) { 12 } else { 6 }) {
             return Call::Page { bytes: self.page(row.len()) };
         }
         if self.burst > 0 {
             self.burst -= 1;
+            if self.busy && rng.once_in(9) {
+                return self.event(row);
+            }
         } else if rng.once_in(24) {
-            self.burst = rng.below(40);
+            self.burst = rng.below(if self.busy { 160 } else { 40 });
         } else if rng.below(5) > 1 {
             return self.event(row);
         }
-        Call::Tick { places: self.places(row.len()) }
+        Call::Tick { quota: self.quota(row.len()), places: self.places(row.len()) }
+    }
+
+    /// At times one that 18 refuses.
+    fn quota(&mut self, drives: usize) -> u32 {
+        let rng = &mut self.gen.rng;
+        let any = 1 + rng.below(64);
+        match rng.below(if (1..=64).contains(&drives) { 24 } else { 6 }) {
+            0 => rng.pick(&[0, 65, 0, 65, 66, 128, 255, u32::MAX]),
+            1 => rng.pick(&[0, 256, 256 + any, 257, 1 << 16, 1 << 16 | any, 1 << 24 | any, 1 << 31 | any]),
+            2 => rng.pick(&[1, 2, 63, 64]),
+            3 => (drives as u32).clamp(1, 64),
+            4 => any,
+            _ if self.quota == 0 => 1 + rng.below((drives as u32).clamp(1, 64)),
+            _ => self.quota,
+        }
     }
 
     fn event(&mut self, row: &[Drive]) -> Call {
         let drives = row.len() as u32;
         let mut list = self.list(drives);
+        if self.busy && self.gen.rng.once_in(3) {
+            list = longest(row);
+        }
         if self.gen.rng.once_in(if list.len() > 64 || row.len() > 64 { 4 } else { 12 }) {
             self.spoil(&mut list, drives);
         }
         let bytes = match self.gen.rng.below(16) {
             0 => Bytes::event(1, 0, 0, 0),
             1 => self.gen.damaged_tick(),
+            2 if self.busy => Bytes::event(9, 0, 0, 0),
+            3 if self.busy => write(Param::MinRepTime, self.gen.rng.pick(&[1, 1, 2, 5, 3600])),
+            4..8 if self.busy => Bytes::event(2, self.gen.rng.byte(), 0, 0),
             _ => {
                 let listed = list.get(self.gen.rng.below(list.len() as u32) as usize);
                 let drive = listed.and_then(|&number| row.get(number as usize));
@@ -138,7 +207,7 @@ impl HallGen {
     /// The length of an answer row of which `needed` places are needed.
     fn places(&mut self, needed: usize) -> usize {
         let rng = &mut self.gen.rng;
-        match rng.below(24) {
+        match rng.below(if needed > 64 { 12 } else { 24 }) {
             0 => needed.saturating_sub(1),
             1 => rng.below(needed.max(1) as u32) as usize,
             2..12 => needed,
@@ -163,4 +232,11 @@ impl HallGen {
             _ => 64 * LINE + rng.below(8 * LINE as u32) as usize,
         }
     }
+}
+
+/// The well-formed drive with the longest wait, as a list.
+fn longest(row: &[Drive]) -> Vec<u32> {
+    let well_formed = row.iter().enumerate().filter(|(_, drive)| Model.well_formed(drive));
+    let longest = well_formed.max_by_key(|(_, drive)| drive.wait);
+    longest.map(|(number, _)| number as u32).into_iter().collect()
 }

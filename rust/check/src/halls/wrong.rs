@@ -47,6 +47,11 @@ impl fmt::Display for Caught {
     }
 }
 
+/// The count of calls until a wrong hall is caught by the comparison alone.
+pub fn caught_by_calls(hall: &dyn Hall, seed: u64, calls: u64) -> Option<u64> {
+    first_failure(hall, seed, calls, Ask::Equality, None).err().map(|failed| failed.done)
+}
+
 /// A wrong hall, by each means on its own. One that a page gives away is not asked for demand 3: a page is in
 /// no share.
 pub fn catch(hall: &dyn Hall, seed: u64, calls: u64) -> Caught {

@@ -1,0 +1,49 @@
+use borrow.Author.Needs.{needs}
+use mathlib.Core.Path.{_≡_, refl, sym, _∙_}
+use mathlib.Core.Bool.{Bool, true, false, not}
+use native.Mathlib.Omega.{arith}
+use Rattle.numbers.specs.Laws.{not-false}
+use Rattle.damper.specs.Tick.{advance, due}
+use Rattle.damper.specs.Laws.{wf-ranges, wf-flags}
+use Rattle.hall_tick.specs.Chosen.{held-formed, held-unformed}
+use Rattle.hall_tick.proofs.hold_one.Statement.{statement}
+use Rattle.hall_tick.proofs.hold_one.Tie as tie
+
+not-true-is : (b : Bool) → not b ≡ true → b ≡ false
+not-true-is true e = sym e
+not-true-is false e = refl
+
+-- not well formed
+returns : tie.Need-returns
+returns c =
+    let d = c .before .before .args .d in
+    let u = held-unformed d (sym (c .before .well-formed .ensures) ∙ not-true-is _ (c .if1 .taken)) in
+    (sym (u .0), sym (u .1), rw (u .2) (omega arith))
+
+advance-requires : tie.Need-advance-requires
+advance-requires c κs =
+    let w = sym (c .before .well-formed .ensures) ∙ not-false _ (c .if1 .left) in
+    (wf-ranges _ w, wf-flags _ w)
+
+-- well formed
+returns-2 : tie.Need-returns-2
+returns-2 c =
+    let d = c .before .before .before .before .before .before .before .before .before .before .before .before .before .args .d in
+    let w = sym (c .before .before .before .before .before .before .before .before .before .before .before .before .well-formed .ensures) ∙ not-false _ (c .before .before .before .before .before .before .before .before .before .before .before .if1 .left) in
+    let f = held-formed d w in
+    let a = c .before .before .before .before .before .before .before .before .before .before .advance .ensures in
+    let st = c .before .before .before .before .before .before .before .before .status .ensures in
+    let q : c .before .before .before .before .before .before .before .due .result ≡ due (advance d .drive) = c .before .before .before .before .before .before .before .due .ensures ∙ rw (st, a) in (
+      c .before .before .before .with-wait .ensures ∙ rw (c .before .before .before .before .pick16 .ensures, c .before .before .before .before .before .next16 .ensures, q, a) (sym (f .0)),
+      c .before .before .pick32 .ensures ∙ rw (q, st, a) (sym (f .1)),
+      c .max32 .ensures ∙ rw (c .before .key .ensures, q, f .2),
+    )
+
+pub hold-one-spec : {M : Type 1} → statement M
+hold-one-spec =
+    tie.close
+    (tie.spec
+    (λ c κs. search needs) returns advance-requires (λ c κs. search needs) (λ c κs. search needs)
+    (λ c. search needs) (λ c. search needs) (λ c. search needs) (λ c. search needs) (λ c. search needs)
+    (λ c κs. search needs) (λ c κs. search needs) (λ c κs. search needs) (λ c κs. search needs) (λ c κs. search needs) (λ c κs. search needs)
+    returns-2)

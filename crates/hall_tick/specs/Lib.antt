@@ -1,0 +1,2 @@
+-- What the code of the hall tick leaves after each turn of its two loops.
+pub mod Chosen
