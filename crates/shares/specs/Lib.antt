@@ -8,6 +8,7 @@ pub mod SharedLog
 pub mod Theorem
 pub mod Waiting
 pub mod WaitingWitness
+pub mod Waited
 pub mod HostLog
 pub mod PageRead
 pub mod Witnesses
