@@ -1,8 +1,8 @@
 -- Laws of the choice: it sends the one with the largest key, and no more than the quota.
-use mathlib.Core.Path.{_≡_, refl, sym, ap, _∙_}
+use mathlib.Core.Path.{_≡_, refl, _∙_}
 use mathlib.Core.Bool.{Bool, true, false, not, _&&_, _||_}
 use mathlib.Core.List.{List}
-use Prim.Native.Nat.{ℕ, zero, suc, _+_, _-_, _*_, _%_, _<_, _≤_, max, min}
+use Prim.Native.Nat.{ℕ, zero, suc, _+_, _-_, _<_, _≤_, min}
 use native.Mathlib.Omega.{arith}
 use native.Mathlib.Nat.{not-suc-le-zero}
 use lib.Dec.{ltb, eqb}
@@ -11,7 +11,7 @@ use borrow.Author.Tests.{ltb-true, ltb-false, lt-ltb, le-ltb, eqb-true, eqb-fals
 use Rattle.numbers.specs.Numbers.{pick}
 use Rattle.numbers.specs.Laws.{cases}
 use Rattle.numbers.specs.Places.{countBelow}
-use Rattle.numbers.specs.PlaceLaws.{tab-length, tab-at, tab-by, tab-set}
+use Rattle.numbers.specs.PlaceLaws.{tab-at, tab-by, tab-set}
 use Rattle.choice.specs.Choice.{keyOf, placeOf, largest, sentBy, other, goes, kept}
 
 -- the largest key is at least each, and at most what each is at most
@@ -86,10 +86,6 @@ module _ (isDue : ℕ → Bool) (quota first : ℕ) where
 
 -- The numbers with those of the first `i` places kept or set to 0, as a loop leaves them.
 module _ (numbers : List ℕ) (quota first : ℕ) where
-  pub kept-length : (i : ℕ) → length (kept numbers i quota first) ≡ length numbers
-  unfolding kept
-  kept-length i = tab-length (length numbers) _
-
   pub kept-start : numbers ≡ kept numbers 0 quota first
   unfolding kept
   kept-start = tab-by 0 numbers (length numbers) _ refl (λ i l. rw (le-ltb i 0 (omega arith)))

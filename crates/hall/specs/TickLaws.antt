@@ -1,18 +1,17 @@
 -- Laws of a hall tick by places: each drive is ticked as it stood before the call.
 use mathlib.Core.Path.{_≡_, refl, sym, ap, _∙_}
-use mathlib.Core.Bool.{Bool, true, false}
-use mathlib.Core.List.{List, [], _∷_, _++_, map}
+use mathlib.Core.List.{List, _++_, map}
 use Prim.Native.Nat.{ℕ, zero, suc, _+_, _-_, _<_, _≤_}
 use native.Mathlib.Omega.{arith}
 use native.Mathlib.Nat.{not-suc-le-zero, le-of-suc-le-suc}
 use lib.Dec.{ltb, eqb}
-use lib.ListN.{length, getD, set, drop, length-append, length-map, length-drop, List·getD-append}
+use lib.ListN.{length, getD, drop, length-map}
 use lib.Seq.{getD-set-same, getD-set-other, lt-length-set, getD-append-add, getD-drop}
-use borrow.Author.Tests.{lt-ltb, le-ltb, ltb-true, ltb-false, eqb-true, eqb-false}
+use borrow.Author.Tests.{ltb-true, ltb-false, eqb-true, eqb-false}
 use Rattle.numbers.specs.Numbers.{pick}
 use Rattle.numbers.specs.Laws.{cases}
 use Rattle.numbers.specs.Places.{placesFrom, tabulate}
-use Rattle.numbers.specs.PlaceLaws.{length-places, tab-length, tab-at, tab-by, tab-same}
+use Rattle.numbers.specs.PlaceLaws.{tab-length, tab-by}
 use Rattle.answer.specs.declared.Answer.{Answer}
 use Rattle.damper.specs.declared.Drive.{Drive}
 use Rattle.damper.specs.declared.Outcome.{Outcome}
@@ -55,7 +54,8 @@ module _ (step : StepOn Given) where
         row-among n row′ (j + 1) i (omega arith) (omega arith) (lt-length-set row j _ b)
         ∙ ap (λ (d : Drive). step d (g i) .drive) (elsewhere row (turn (g j) j) i other))
 
-    number-among : (number : Answer → ℕ) (rest : List ℕ) (n : ℕ) (row : List Drive) (j k i : ℕ) → k < n → i ≡ j + k
+    -- the number of an answer stands at its place, by the drive that stood there before, whatever follows the numbers
+    pub number-among : (number : Answer → ℕ) (rest : List ℕ) (n : ℕ) (row : List Drive) (j k i : ℕ) → k < n → i ≡ j + k
         → getD (map (λ (o : Outcome). number (o .answer)) (turned step row (turns j n)) ++ rest) k 0 ≡ number (step (at row i) (g i) .answer)
     unfolding turned
     number-among number rest zero row j k i h e = absurd (not-suc-le-zero h)

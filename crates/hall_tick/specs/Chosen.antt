@@ -1,18 +1,18 @@
 -- The two loops of a hall tick: in the first each drive is advanced and its report held, and the numbers are those of all reports that are
 -- due; in the second those go that the choice keeps. At the end it is a hall tick that sends who is read off the numbers, and may.
 use mathlib.Core.Path.{_≡_, refl, sym, ap, _∙_, subst}
-use mathlib.Core.Bool.{Bool, true, false, not, _&&_, _||_, and-false, and-true, false≢true}
-use mathlib.Core.List.{List, []}
-use Prim.Native.Nat.{ℕ, zero, suc, _+_, _-_, _*_, _<_, _≤_, max}
+use mathlib.Core.Bool.{Bool, true, false, not, _&&_, _||_, and-false, and-true}
+use mathlib.Core.List.{List}
+use Prim.Native.Nat.{ℕ, zero, _+_, _-_, _*_, _<_, _≤_, max}
 use native.Mathlib.Omega.{arith}
 use native.Mathlib.Numerals.{add-one}
 use lib.Dec.{ltb, leb, eqb}
 use lib.ListN.{length, getD, set}
 use lib.Seq.{ext-getD}
-use borrow.Author.Tests.{lt-ltb, le-ltb, ltb-true, ltb-false, le-leb, lt-leb, leb-true, leb-false, eqb-true, eqb-false, eq-eqb, ne-eqb}
+use borrow.Author.Tests.{lt-ltb, le-ltb, ltb-true, ltb-false, le-leb, eqb-true, eq-eqb}
 use Rattle.numbers.specs.Numbers.{pick, next}
 use Rattle.numbers.specs.Laws.{cases, and-left, and-right, and-intro, or-left, or-right}
-use Rattle.numbers.specs.Places.{tabulate, allBelow, countBelow, implies}
+use Rattle.numbers.specs.Places.{tabulate}
 use Rattle.numbers.specs.PlaceLaws.{tab-length, tab-at, tab-by, tab-same, tab-set, all-by, implies-by, count-none, count-same}
 use Rattle.damper.specs.declared.Drive.{Drive}
 use Rattle.damper.specs.Record.{freshDrive, withWait}

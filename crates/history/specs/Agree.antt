@@ -14,7 +14,7 @@ use Rattle.table.specs.Laws.{range-at, bounds}
 use Rattle.event.specs.declared.Event.{Event}
 use Rattle.event.specs.Event.{event, badKind, dataRefusal}
 use Rattle.event.specs.Laws.{by-kind, admitted, known-write}
-use Rattle.motion.specs.Motion.{toPosition, runTicks, toward}
+use Rattle.motion.specs.Motion.{runTicks, toward}
 use Rattle.motion.specs.Laws.{run-ticks-pos}
 use Rattle.rules.specs.declared.Commands.{Commands}
 use Rattle.rules.specs.Rank.{forced, forbidsRun, busActive}

@@ -61,6 +61,12 @@ pub record Facts (d : Drive) (t : C.Trace) (s : List ℕ) (o : Outcome) : Type 0
   pub refusal : C.Refusal (momentOf s o) t
   pub formed : C.Formed (momentOf s o) t
 
+-- MinRepTime, as the list has it, is at least 1
+pub good-time : (d : Drive) (t : C.Trace) → Good d t → 1 ≤ minRepTime (R.parameters (C.accepted t))
+good-time d t g =
+    let in-range : allIn rows (R.parameters (C.accepted t)) ≡ true = rw (g .agrees .params) at (K.parts d (g .wf) .params) in
+    bounds (rowAt rows 3) _ (range-at rows _ 3 in-range (omega arith)) .0
+
 -- the list's own judgement is that of the record
 pub judged : (d : Drive) (t : C.Trace) (s : List ℕ) → Good d t → judgedBy d s ≡ R.judgement (C.accepted t) s
 unfolding R.judgement

@@ -1,6 +1,5 @@
 -- Demand 3: for every list of event records, the trace of a drive that was fresh at first meets the claim.
 use mathlib.Core.Path.{_≡_, refl, sym, _∙_}
-use mathlib.Core.Bool.{true}
 use mathlib.Core.List.{List, [], _∷_}
 use Prim.Native.Nat.{ℕ, _+_, _≤_}
 use native.Mathlib.Omega.{arith}
@@ -10,13 +9,13 @@ use lib.ListN.{length}
 use borrow.Author.Tests.{eqb-true, eqb-false}
 use Rattle.numbers.specs.Laws.{cases, and-left}
 use Rattle.numbers.specs.Counts as Counts
-use Rattle.table.specs.Table.{rows, rowAt, allIn, minRepTime}
-use Rattle.table.specs.Laws.{range-at, bounds}
+use Rattle.table.specs.Table.{minRepTime}
 use Rattle.damper.specs.declared.Drive.{Drive}
 use Rattle.damper.specs.declared.Outcome.{Outcome}
 use Rattle.damper.specs.Record.{freshDrive}
 use Rattle.damper.specs.Step.{refusalOf, stepOf}
 use Rattle.damper.specs.Carry.{Step, outcomes, driveAfter}
+use Rattle.damper.specs.CarryLaws.{outcomes-length}
 use Rattle.invariant.specs.Effects as F
 use Rattle.invariant.specs.Kept as K
 use Rattle.history.specs.Readings as R
@@ -24,7 +23,7 @@ use Rattle.history.specs.RunLaws.{leftIn}
 use Rattle.history.specs.Claim as C
 use Rattle.history.specs.Claim.{momentOf}
 use Rattle.history.specs.Waits.{spacing, waiting-undue, waiting}
-use Rattle.history.specs.Facts.{Good, Facts, judged, facts-refused, facts-accepted, due-sent}
+use Rattle.history.specs.Facts.{Good, Facts, good-time, judged, facts-refused, facts-accepted, due-sent}
 
 -- the list's own judgement is the drive's
 refused-by : (d : Drive) (t : C.Trace) (s : List ℕ) → Good d t → refusalOf d s ≡ R.judgement (C.accepted t) s
@@ -45,11 +44,8 @@ due-sends d t s g p =
     rw (F.step-accepted d s (refused-by d t s g ∙ j)) (due-sent d t s g j p)
 
 module _ (d : Drive) (t : C.Trace) (s : List ℕ) (o : Outcome) (f : Facts d t s o) where
-  in-range : allIn rows (C.inForce (momentOf s o) t) ≡ true
-  in-range = rw (f .good .agrees .params) at (K.parts _ (f .good .wf) .params)
-
   time-pos : 1 ≤ minRepTime (C.inForce (momentOf s o) t)
-  time-pos = bounds (rowAt rows 3) _ (range-at rows _ 3 in-range (omega arith)) .0
+  time-pos = good-time (o .drive) (momentOf s o ∷ t) (f .good)
 
   -- whatever the outcome of a record, be it of a step or of a hall tick
   pub hall-holds : C.HallHolds (momentOf s o) t
@@ -108,15 +104,16 @@ fresh-good =
       last = refl;
     }
 
--- A trace grows by as many records as the list has, whatever the step and the drive.
-pub trace-length : (step : Step) (l : List (List ℕ)) (d : Drive) (t : C.Trace) → length (C.traceOn t l (outcomes step d l)) ≡ length t + length l
-unfolding outcomes C.traceOn
-trace-length step [] d t = omega arith
-trace-length step (s ∷ ss) d t = let o = step d s in trace-length step ss (o .drive) (momentOf s o ∷ t) ∙ omega arith
+-- A trace grows by as many records as the list has, each having its outcome.
+pub trace-length : (l : List (List ℕ)) (os : List Outcome) (t : C.Trace) → length os ≡ length l → length (C.traceOn t l os) ≡ length t + length l
+unfolding C.traceOn
+trace-length [] os t e = omega arith
+trace-length (s ∷ l) [] t e = absurd (omega arith)
+trace-length (s ∷ l) (o ∷ os) t e = trace-length l os (momentOf s o ∷ t) (omega arith) ∙ omega arith
 
 -- The trace of a drive that was fresh at first has as many records as the list.
 pub trace-whole : (step : Step) (l : List (List ℕ)) → length (C.traceOf step l) ≡ length l
-trace-whole step l = trace-length step l freshDrive [] ∙ zero-add (length l)
+trace-whole step l = trace-length l _ [] (outcomes-length step freshDrive l) ∙ zero-add (length l)
 
 -- For every list of lists of numbers, however long each may be, the drive's trace meets the claim.
 pub demand-3 : (l : List (List ℕ)) → C.Claim (C.traceOf stepOf l)

@@ -1,7 +1,7 @@
 -- Laws of tests of the numbers below a bound, and of rows that a function gives.
 use mathlib.Core.Path.{_≡_, refl, sym, ap, _∙_}
-use mathlib.Core.Bool.{Bool, true, false, not, _&&_, _||_, false≢true}
-use mathlib.Core.List.{List, [], _∷_, map}
+use mathlib.Core.Bool.{Bool, true, false, not, false≢true}
+use mathlib.Core.List.{List, map}
 use Prim.Native.Nat.{ℕ, zero, suc, _+_, _<_, _≤_}
 use native.Mathlib.Omega.{arith}
 use native.Mathlib.Nat.{not-suc-le-zero, le-of-suc-le-suc, zero-add}
@@ -9,18 +9,12 @@ use lib.Dec.{eqb}
 use lib.ListN.{length, getD, set, length-map, length-set}
 use lib.Seq.{ext-getD, getD-set-same, getD-set-other}
 use borrow.Author.Tests.{eqb-true, eqb-false}
-use Rattle.numbers.specs.Numbers.{pick}
 use Rattle.numbers.specs.Laws.{cases, and-left, and-right, and-intro}
 use Rattle.numbers.specs.Places.{placesFrom, tabulate, allBelow, countBelow, implies}
 
-pub length-places : (i n : ℕ) → length (placesFrom i n) ≡ n
+length-places : (i n : ℕ) → length (placesFrom i n) ≡ n
 length-places i zero = refl
 length-places i (suc n) = ap suc (length-places (i + 1) n)
-
-pub place-at : (i n k : ℕ) → k < n → getD (placesFrom i n) k 0 ≡ i + k
-place-at i zero k h = absurd (not-suc-le-zero h)
-place-at i (suc n) zero h = omega arith
-place-at i (suc n) (suc k) h = place-at (i + 1) n k (le-of-suc-le-suc h) ∙ omega arith
 
 -- a test that is met where another is
 pub implied : (a b : Bool) → implies a b ≡ true → a ≡ true → b ≡ true

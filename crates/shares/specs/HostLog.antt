@@ -2,15 +2,13 @@
 use mathlib.Core.Path.{_≡_, refl, sym, ap, _∙_}
 use mathlib.Core.Bool.{Bool, true, false, not, _||_}
 use mathlib.Core.List.{List, [], _∷_, _++_, map}
-use Prim.Native.Nat.{ℕ, zero, suc, _+_, _*_, _-_, _/_, _%_, _<_, _≤_}
+use Prim.Native.Nat.{ℕ, _+_, _*_, _-_, _/_, _%_, _<_, _≤_}
 use native.Mathlib.Omega.{arith}
-use native.Mathlib.Nat.{not-suc-le-zero, le-of-suc-le-suc}
 use lib.Dec.{leb, eqb}
 use lib.ListN.{length, getD}
 use borrow.Author.Tests.{le-leb, eqb-true}
 use Rattle.numbers.specs.Numbers.{pick, on, bit}
 use Rattle.numbers.specs.Laws.{cases}
-use Rattle.numbers.specs.Places.{placesFrom}
 use Rattle.rules.specs.declared.Commands.{Commands}
 use Rattle.rules.specs.Rank.{calibrating, syncing, forced}
 use Rattle.rules.specs.Report.{status, Sent, silent, sent}
@@ -21,10 +19,10 @@ use Rattle.damper.specs.WellFormed.{wellFormed}
 use Rattle.damper.specs.Step.{tickWith, stepOf}
 use Rattle.damper.specs.Carry.{outcomes, answersIn}
 use Rattle.damper.specs.CarryLaws.{outcomes-append}
-use Rattle.hall.specs.Hall.{Call, give, tick, isTick, callRefusal, Given, bytes, hallTick, turn, turnsOf, at, rowWith, turned, rowAfter, tickNumber, answersAfter, turnsIn, sharedOut, share}
+use Rattle.hall.specs.Hall.{Call, give, tick, isTick, callRefusal, bytes, hallTick, turn, turnsOf, at, rowAfter, tickNumber, answersAfter, turnsIn, sharedOut, share}
 use Rattle.hall.specs.Quota.{hallTicked, hallStep, allowedCalls}
 use Rattle.hall.specs.Laws.{row-length}
-use Rattle.hall.specs.TickLaws.{elsewhere}
+use Rattle.hall.specs.TickLaws.{number-among}
 use Rattle.history.specs.Log.{Entry}
 use Rattle.history.specs.Claim.{reportIn, entriesOf, reportsFrom}
 use Rattle.shares.specs.Shares.{turns-drive, share-answers}
@@ -111,17 +109,6 @@ unsaid i s t d [] later = refl
 unsaid i s t d (j ∷ list) later =
     cases (eqb j i) (λ q. rw (q, quiet d s t) (unsaid i s t (stepOf d s .drive) list later)) (λ q. rw q (unsaid i s t d list later))
 
--- the number of a drive at a hall tick stands at its place, by the drive that stood there before the call, whatever follows the numbers
-number-at : (g : ℕ → Given) (rest : List ℕ) (n : ℕ) (row : List Drive) (i j k : ℕ) → k < n → i ≡ j + k
-    → getD (map (λ (o : Outcome). tickNumber (o .answer)) (turned hallStep row (map (λ x. turn (g x) x) (placesFrom j n))) ++ rest) k 0
-    ≡ tickNumber (hallStep (at row i) (g i) .answer)
-unfolding turned
-number-at g rest zero row i j k h e = absurd (not-suc-le-zero h)
-number-at g rest (suc n) row i j zero h e = let same : i ≡ j = omega arith in rw same
-number-at g rest (suc n) row i j (suc k) h e =
-    number-at g rest n (rowWith hallStep row (turn (g j) j)) i (j + 1) k (le-of-suc-le-suc h) (omega arith)
-    ∙ ap (λ (d : Drive). tickNumber (hallStep d (g i) .answer)) (elsewhere hallStep row (turn (g j) j) i (λ (f : j ≡ i). omega arith))
-
 heard-said : (row : List Drive) (i : ℕ) → i < length row → (c : Call) (answers : List ℕ) (later : List Outcome)
     → noted (heard i c (callRefusal (length row) c) (answersAfter hallStep row c answers)) (said later)
     ≡ said (outcomes hallStep (at row i) (sharedOut i (turnsOf (length row) c)) ++ later)
@@ -134,7 +121,7 @@ heard-said row i h (tick quota sends room) answers later =
     cases (eqb (callRefusal (length row) (tick quota sends room)) 0)
     (λ q.
     let n = length row in
-    rw (q, number-at (λ x. hallTick (sends x)) _ n row i 0 i h (omega arith), number-read (sends i) (at row i), one-here sends i 0 i n h (omega arith)))
+    rw (q, number-among hallStep (λ x. hallTick (sends x)) tickNumber _ n row 0 i i h (omega arith), number-read (sends i) (at row i), one-here sends i 0 i n h (omega arith)))
     (λ q. rw q)
 
 -- The log of a drive's place says what its share does, whatever drive stood there.

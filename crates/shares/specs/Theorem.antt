@@ -8,7 +8,7 @@ use Prim.Native.Nat.{ℕ, _+_, _<_}
 use native.Mathlib.Omega.{arith}
 use native.Mathlib.Nat.{zero-add}
 use lib.Dec.{ltb, eqb}
-use lib.ListN.{length}
+use lib.ListN.{length, length-map}
 use borrow.Author.Tests.{eqb-true, eqb-false, not-true}
 use Rattle.numbers.specs.Laws.{cases, passed, and-left, and-right, and-intro, or-left}
 use Rattle.numbers.specs.Places.{allBelow, implies}
@@ -24,6 +24,7 @@ use Rattle.damper.specs.Record.{freshDrive}
 use Rattle.damper.specs.WellFormed.{wellFormed}
 use Rattle.damper.specs.Step.{tickWith, applied, refusalOf, stepOf}
 use Rattle.damper.specs.Laws.{refusal-none}
+use Rattle.damper.specs.CarryLaws.{outcomes-length}
 use Rattle.damper.specs.Carry.{outcomes, driveAfter}
 use Rattle.invariant.specs.Effects.{report-after, step-accepted, step-refused, refusal-wf}
 use Rattle.hall.specs.Hall.{Call, give, tick, badRow, badNumber, isTick, badEvent, tickRefusal, callRefusal, Given, bytes, hallTick, turn, tickBytes, bytesIn, turnsOf, at, rowAfter, turnsIn, hallAfter, sharedOut, share, own}
@@ -33,7 +34,7 @@ use Rattle.history.specs.Readings.{judgement}
 use Rattle.history.specs.Claim.{Moment, Trace, momentOf, accepted, reportIn, Waiting, dueIn, HallHolds, HallClaim, traceOn, reportsFrom}
 use Rattle.history.specs.Waits.{silent-in}
 use Rattle.history.specs.Facts.{Good, Facts, due-read, facts-tick, facts-wait}
-use Rattle.history.specs.Theorem.{facts, hall-holds, fresh-good}
+use Rattle.history.specs.Theorem.{facts, hall-holds, trace-length, fresh-good}
 use Rattle.shares.specs.Shares.{turns-drive, share-drive, share-answers}
 use Rattle.shares.specs.Bound.{one-here, shared-append}
 use Rattle.shares.specs.SharedLog.{sharedLogFrom, sharedLog}
@@ -168,15 +169,19 @@ finds-due d t g sent q b =
     let h = hall-holds d t tickBytes o (facts-hall d t g sent q) in
     and-intro (g .wf) (due-read d t tickBytes g (tick-accepted t) refl o ∙ broken-due (momentOf tickBytes o) t h b)
 
--- The trace has as many records as the share, whatever the drive was.
-trace-grows : (gs : List Given) (d : Drive) (t : Trace) → length (traceOn t (map bytesIn gs) (outcomes hallStep d gs)) ≡ length t + length gs
-unfolding outcomes traceOn
-trace-grows [] d t = omega arith
-trace-grows (g ∷ gs) d t = let o = hallStep d g in trace-grows gs (o .drive) (momentOf (bytesIn g) o ∷ t) ∙ omega arith
+-- so after every list, at the hall tick that comes next
+pub share-finds-due : (row : List Drive) (cs : List Call) (i : ℕ) → i < length row → at row i ≡ freshDrive → allowedCalls row cs ≡ true
+    → (let d = at (hallAfter hallStep row cs) i in
+    (sent : Bool) → implies sent (dueNow d) ≡ true → (Waiting (momentOf tickBytes (hallTicked sent d)) (shareTrace row i cs) → ⊥) → dueNow d ≡ true)
+share-finds-due row cs i h fresh a sent q b = finds-due _ _ (share-good row cs i h fresh a) sent q b
 
+-- The trace has as many records as the share, whatever the drive was.
 pub share-whole : (row : List Drive) (cs : List Call) (i : ℕ) → i < length row → length (shareTrace row i cs) ≡ length (share (length row) i cs)
 share-whole row cs i h =
-    rw (share-answers hallStep row cs i h) (trace-grows (share (length row) i cs) (at row i) [] ∙ zero-add (length (share (length row) i cs)))
+    let gs = share (length row) i cs in
+    let size : length (map bytesIn gs) ≡ length gs = length-map gs bytesIn in
+    rw (share-answers hallStep row cs i h)
+    (trace-length (map bytesIn gs) (outcomes hallStep (at row i) gs) [] (outcomes-length hallStep (at row i) gs ∙ sym size) ∙ zero-add _ ∙ size)
 
 -- an event other than a tick is answered by no report
 pub quiet : (d : Drive) (s : List ℕ) → isTick s ≡ false → reportIn (stepOf d s .answer) ≡ silent

@@ -11,8 +11,6 @@ use borrow.Author.Tests.{ltb-true, ltb-false, eqb-true, not-true}
 use Rattle.numbers.specs.Laws.{cases, and-left, and-right, and-intro}
 use Rattle.numbers.specs.Places.{implies}
 use Rattle.numbers.specs.Counts as Counts
-use Rattle.table.specs.Table.{rows, rowAt, allIn, minRepTime}
-use Rattle.table.specs.Laws.{range-at, bounds}
 use Rattle.event.specs.Event.{eventIn, readOf}
 use Rattle.rules.specs.RefusalLaws.{refusal-passed}
 use Rattle.damper.specs.declared.Drive.{Drive}
@@ -21,13 +19,12 @@ use Rattle.damper.specs.Record.{freshDrive}
 use Rattle.damper.specs.Step.{stepOf}
 use Rattle.damper.specs.Carry.{outcomes, driveAfter}
 use Rattle.invariant.specs.Effects.{refusal-wf}
-use Rattle.invariant.specs.Kept.{parts}
 use Rattle.hall.specs.Hall as H
 use Rattle.hall.specs.Hall.{Call, Given, bytes, hallTick, tickBytes, bytesIn, turnsOf, at, turnsIn, hallAfter, rowAfter, share}
 use Rattle.hall.specs.Quota.{dueNow, hallTicked, hallStep, allowedCall, allowedCalls}
-use Rattle.history.specs.Readings.{isTick, isRestart, parameters, judgement}
+use Rattle.history.specs.Readings.{isTick, isRestart, judgement}
 use Rattle.history.specs.Claim.{Moment, Trace, momentOf, accepted, acceptedAs, reports, ticksIn, Waiting, traceOn}
-use Rattle.history.specs.Facts.{Good, judged}
+use Rattle.history.specs.Facts.{Good, good-time, judged}
 use Rattle.history.specs.Theorem.{facts}
 use Rattle.shares.specs.Shares.{hall-length, share-drive, share-answers}
 use Rattle.shares.specs.Bound.{ticksGiven, dueAtEach, sentAtOne, restart, restarted, shared-append, sent-in-time}
@@ -99,15 +96,10 @@ module _ (d : Drive) (t : Trace) (g : Good d t) where
       absurd (false≢true (sym u ∙ and-right (eqb (judgement (accepted t) s) 0) _ k))
   event-first s n (other k r b) = (rw (refusal-wf d s (g .wf) ∙ judged d t s g) r, rw k)
 
-  time-pos : 1 ≤ minRepTime (parameters (accepted t))
-  time-pos =
-      let in-range : allIn rows (parameters (accepted t)) ≡ true = rw (g .agrees .params) at (parts d (g .wf) .params) in
-      bounds (rowAt rows 3) _ (range-at rows _ 3 in-range (omega arith)) .0
-
 -- a report breaks no wait, of a drive after it that agrees with its trace
 report-waits : (d : Drive) (m : Moment) (t : Trace) → Good d (m ∷ t) → reports m ≡ true → Waiting m t
 report-waits d m t g e row old s k n q =
-    let l = Counts.quiet-last (acceptedAs isTick) (λ y u. reports y) (acceptedAs isRestart) m t row old s (rw n (time-pos d (m ∷ t) g)) q in
+    let l = Counts.quiet-last (acceptedAs isTick) (λ y u. reports y) (acceptedAs isRestart) m t row old s (rw n (good-time d (m ∷ t) g)) q in
     absurd (false≢true (sym (l .1) ∙ e))
 
 module _ (d : Drive) (t : Trace) (g : Good d t) where

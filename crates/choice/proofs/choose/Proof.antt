@@ -2,16 +2,15 @@
 use borrow.Author.Needs.{needs}
 use mathlib.Core.Path.{_≡_, refl, sym, ap, _∙_}
 use mathlib.Core.List.{List}
-use Prim.Native.Nat.{ℕ, _-_, _<_, _≤_}
+use Prim.Native.Nat.{ℕ, _-_, _≤_}
 use native.Mathlib.Omega.{arith}
 use native.Mathlib.Nat.{sub-zero}
 use native.Mathlib.Numerals.{add-one}
 use lib.Dec.{eqb}
 use lib.ListN.{length, getD, set, length-set}
-use Rattle.numbers.specs.Numbers.{pick}
 use Rattle.numbers.specs.Places.{countBelow}
 use Rattle.choice.specs.Choice.{sentBy, other, kept}
-use Rattle.choice.specs.Laws.{kept-length, kept-start, kept-next, kept-more, held-by-left, left-by-one}
+use Rattle.choice.specs.Laws.{kept-start, kept-next, kept-more, held-by-left, left-by-one}
 use Rattle.choice.proofs.choose.Statement.{statement}
 use Rattle.choice.proofs.choose.Tie as tie
 

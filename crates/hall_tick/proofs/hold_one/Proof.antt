@@ -1,23 +1,18 @@
 use borrow.Author.Needs.{needs}
-use mathlib.Core.Path.{_≡_, refl, sym, _∙_}
-use mathlib.Core.Bool.{Bool, true, false, not}
+use mathlib.Core.Path.{_≡_, sym, _∙_}
 use native.Mathlib.Omega.{arith}
-use Rattle.numbers.specs.Laws.{not-false}
+use borrow.Author.Tests.{not-true, not-false}
 use Rattle.damper.specs.Tick.{advance, due}
 use Rattle.damper.specs.Laws.{wf-ranges, wf-flags}
 use Rattle.hall_tick.specs.Chosen.{held-formed, held-unformed}
 use Rattle.hall_tick.proofs.hold_one.Statement.{statement}
 use Rattle.hall_tick.proofs.hold_one.Tie as tie
 
-not-true-is : (b : Bool) → not b ≡ true → b ≡ false
-not-true-is true e = sym e
-not-true-is false e = refl
-
 -- not well formed
 returns : tie.Need-returns
 returns c =
     let d = c .before .before .args .d in
-    let u = held-unformed d (sym (c .before .well-formed .ensures) ∙ not-true-is _ (c .if1 .taken)) in
+    let u = held-unformed d (sym (c .before .well-formed .ensures) ∙ not-true _ (c .if1 .taken)) in
     (sym (u .0), sym (u .1), rw (u .2) (omega arith))
 
 advance-requires : tie.Need-advance-requires
