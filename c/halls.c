@@ -279,12 +279,12 @@ static size_t random_places(size_t asked)
 /* One in eight is refused. */
 static uint32_t random_quota(size_t drives)
 {
-    uint32_t some = 1 + random_below(DAMPER_HALL_MOST);
+    uint32_t some = 1 + random_below(DAMPER_HALL_QUOTA);
     switch (random_below(24)) {
     case 0: return 0;
-    case 1: return random_below(2) ? DAMPER_HALL_MOST + 1 : UINT32_MAX - random_below(256);
+    case 1: return random_below(2) ? DAMPER_HALL_QUOTA + 1 : UINT32_MAX - random_below(256);
     case 2: return (256u << random_below(24)) | some;
-    case 3: return DAMPER_HALL_MOST;
+    case 3: return DAMPER_HALL_QUOTA;
     case 4: return drives > 0 && drives < DAMPER_HALL_MOST ? (uint32_t)drives : some;
     case 5:
     case 6: return some;
@@ -523,7 +523,7 @@ static void judge_choice(const call *c)
 /* A hall tick: who is due and goes, and what becomes of the waits. */
 static void count_tick(const call *c, uint8_t refusal)
 {
-    bool outside = c->quota < 1 || c->quota > DAMPER_HALL_MOST;
+    bool outside = c->quota < 1 || c->quota > DAMPER_HALL_QUOTA;
     bool by_quota = refusal == DAMPER_HALL_REFUSAL_QUOTA;
     counts[TICK_14] += refusal == DAMPER_HALL_REFUSAL_ROW;
     counts[TICK_16] += refusal == DAMPER_HALL_REFUSAL_CALL;

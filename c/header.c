@@ -554,7 +554,7 @@ static void hall_events(damper_drive fresh)
     }
 }
 
-/* Rows of 1 and 64, lists of 1 and 64, and the refusals 14 to 16: what fits each, and which comes first. */
+/* Rows of 1 and 64, lists of 1 and 64, and the refusals 14 to 16 and 18: what fits each, and which comes first. */
 static void hall_refusals(damper_drive fresh)
 {
     const size_t most = DAMPER_HALL_MOST;
@@ -660,7 +660,6 @@ static void hall_numbers(damper_drive fresh)
     }
     CHECK(!damper_hall_is_report(DAMPER_HALL_REPORT - 1) && damper_hall_is_report(DAMPER_HALL_REPORT));
     CHECK(damper_hall_position(130879) == 255 && damper_hall_status(130879) == 63);
-
 }
 
 /* Document 01's row m1 in a hall of three with a quota of 1, so that it is decided who is sent: one a tick, in order. */

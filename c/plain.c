@@ -451,7 +451,7 @@ static uint8_t judge_tick(size_t drives, uint32_t quota, size_t places)
         return DAMPER_HALL_REFUSAL_ROW;
     if (places < drives)
         return DAMPER_HALL_REFUSAL_CALL;
-    return quota < 1 || quota > DAMPER_HALL_MOST ? DAMPER_HALL_REFUSAL_QUOTA : 0;
+    return quota < 1 || quota > DAMPER_HALL_QUOTA ? DAMPER_HALL_REFUSAL_QUOTA : 0;
 }
 
 /* Steps 1 to 3 for every drive, and the numbers without a report. Gives the due drives, drive i at bit i; they have their wait

@@ -3,10 +3,11 @@ use mathlib.Core.Path.{_≡_}
 use mathlib.Core.Bool.{Bool, true, false, not, _&&_, _||_}
 use mathlib.Core.List.{List}
 use Prim.Native.Nat.{ℕ, zero, suc, _+_, _-_, _*_, _%_, _<_, _≤_, max}
-use lib.Dec.{ltb, leb, eqb}
+use lib.Dec.{ltb, eqb}
 use lib.ListN.{length, getD}
 use Rattle.numbers.specs.Numbers.{pick}
 use Rattle.numbers.specs.Places.{countBelow, tabulate}
+use Rattle.choice.specs.Sent.{sentBy}
 
 -- what a drive is compared by, from whether it is due, its wait and its place, of at most 64; the place that a key is of; the largest of the
 -- first `n`
@@ -19,10 +20,6 @@ placeOf key = 63 - key % 64
 unfoldable pub largest : (ℕ → ℕ) → ℕ → ℕ
 largest key zero = 0
 largest key (suc n) = max (largest key n) (key n)
-
--- whether the number at place `i` is a report: "65,536 + .. for a report"
-abbrev pub sentBy : List ℕ → ℕ → Bool
-sentBy numbers i = leb 65536 (getD numbers i 0)
 
 -- another report than that of the place `first`, and which reports go: that one, and others as far as the quota goes
 abbrev pub other : (ℕ → Bool) → ℕ → ℕ → Bool

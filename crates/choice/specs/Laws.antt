@@ -12,7 +12,8 @@ use Rattle.numbers.specs.Numbers.{pick}
 use Rattle.numbers.specs.Laws.{cases}
 use Rattle.numbers.specs.Places.{countBelow}
 use Rattle.numbers.specs.PlaceLaws.{tab-at, tab-by, tab-set}
-use Rattle.choice.specs.Choice.{keyOf, placeOf, largest, sentBy, other, goes, kept}
+use Rattle.choice.specs.Sent.{sentBy}
+use Rattle.choice.specs.Choice.{keyOf, placeOf, largest, other, goes, kept}
 
 -- the largest key is at least each, and at most what each is at most
 pub largest-least : (key : ℕ → ℕ) (n i : ℕ) → i < n → key i ≤ largest key n

@@ -1,3 +1,4 @@
--- Which of the due drives a hall tick sends. Nothing here is promised of a hall tick but that its choice is one that it may make.
+-- Who was sent at a hall tick, and which of the due drives the code sends; of the latter nothing is promised of a hall tick but that it may.
+pub mod Sent
 pub mod Choice
 pub mod Laws

@@ -84,9 +84,13 @@ abbrev pub turnsAsked : ℕ → Call → List Turn
 turnsAsked n (give list s room) = map (turn (bytes s)) list
 turnsAsked n (tick quota sends room) = tabulate n (λ i. turn (hallTick (sends i)) i)
 
--- the turns of a call on `n` drives; where it is refused itself "nothing is touched"
+-- whether a call on `n` drives is carried out
+abbrev pub carriedOut : ℕ → Call → Bool
+carriedOut n c = eqb (callRefusal n c) 0
+
+-- its turns; where it is refused itself "nothing is touched"
 unfoldable pub turnsOf : ℕ → Call → List Turn
-turnsOf n c = pick (eqb (callRefusal n c) 0) (turnsAsked n c) []
+turnsOf n c = pick (carriedOut n c) (turnsAsked n c) []
 
 -- the drive at a place of the row (no turn of a call has a place beyond the row)
 abbrev pub at : List Drive → ℕ → Drive

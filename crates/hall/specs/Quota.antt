@@ -13,7 +13,7 @@ use Rattle.damper.specs.Record.{withWait}
 use Rattle.damper.specs.WellFormed.{wellFormed}
 use Rattle.damper.specs.Tick.{advance, due}
 use Rattle.damper.specs.Step.{outcome, tickWith, stepOf}
-use Rattle.hall.specs.Hall.{Call, give, tick, callRefusal, Given, bytes, hallTick, turnsOf, at, rowAfter}
+use Rattle.hall.specs.Hall.{Call, give, tick, Given, bytes, hallTick, carriedOut, turnsOf, at, rowAfter}
 
 -- "A well-formed drive is due when the fourth step of a tick would report."
 unfoldable pub dueNow : Drive → Bool
@@ -52,10 +52,6 @@ allowed quota row sends =
     allBelow (length row) (λ i. implies (sends i) (dueNow (at row i)))
     && (leb (countBelow (length row) sends) quota
     && allBelow (length row) (λ i. implies (longest row i) (sends i)))
-
--- whether a call is carried out
-abbrev pub carriedOut : ℕ → Call → Bool
-carriedOut n c = eqb (callRefusal n c) 0
 
 -- whether a call, if it is a hall tick that is carried out, sends what it may
 abbrev pub allowedCall : List Drive → Call → Bool

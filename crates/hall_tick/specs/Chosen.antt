@@ -6,7 +6,7 @@ use mathlib.Core.List.{List}
 use Prim.Native.Nat.{ℕ, zero, _+_, _-_, _*_, _<_, _≤_, max}
 use native.Mathlib.Omega.{arith}
 use native.Mathlib.Numerals.{add-one}
-use lib.Dec.{ltb, leb, eqb}
+use lib.Dec.{ltb, eqb}
 use lib.ListN.{length, getD, set}
 use lib.Seq.{ext-getD}
 use borrow.Author.Tests.{lt-ltb, le-ltb, ltb-true, ltb-false, le-leb, eqb-true, eq-eqb}
@@ -20,7 +20,8 @@ use Rattle.damper.specs.WellFormed.{wellFormed}
 use Rattle.damper.specs.Tick.{advance, due, reported, statusOf}
 use Rattle.damper.specs.Step.{tickWith}
 use Rattle.damper.specs.Carry.{answersIn}
-use Rattle.choice.specs.Choice.{keyOf, placeOf, largest, sentBy, goes, kept, Next}
+use Rattle.choice.specs.Sent.{isReportNumber, sentBy}
+use Rattle.choice.specs.Choice.{keyOf, placeOf, largest, goes, kept, Next}
 use Rattle.choice.specs.Laws.{largest-least, largest-most, place-told, key-order, few-sent}
 use Rattle.hall.specs.Hall.{Call, tick, hallTick, tickRefusal, callRefusal, tickNumber, turnsOf, at, turned, rowAfter, answersAfter}
 use Rattle.hall.specs.Laws.{ticked-fits}
@@ -29,10 +30,10 @@ use Rattle.hall.specs.NumberLaws.{formed-number, unformed-number}
 use Rattle.hall.specs.Quota.{dueNow, waitAfter, hallTicked, hallStep, goesBefore, longest, allowed, allowedCall}
 
 -- a drive whose report is held, and the number that it has if its report goes
-abbrev pub heldDrive : Drive → Drive
+abbrev heldDrive : Drive → Drive
 heldDrive d = hallTicked false d .drive
 
-abbrev pub dueNumber : Drive → ℕ
+abbrev dueNumber : Drive → ℕ
 dueNumber d = tickNumber (hallTicked (dueNow d) d .answer)
 
 -- of a well-formed drive
@@ -59,7 +60,7 @@ unfolding dueNow
 held-unformed d w = (unformed-number false d w .1, unformed-number (dueNow d) d w .0, rw w)
 
 -- a report that was held goes
-pub sent-after-held : (d : Drive) → dueNow d ≡ true → withWait (reported (heldDrive d)) 0 ≡ hallTicked true d .drive
+sent-after-held : (d : Drive) → dueNow d ≡ true → withWait (reported (heldDrive d)) 0 ≡ hallTicked true d .drive
 unfolding dueNow tickWith
 sent-after-held d e =
     let w = and-left (wellFormed d) _ e in
@@ -71,37 +72,37 @@ sent-after-held d e =
 abbrev numberIf : Drive → Bool → ℕ
 numberIf d sent = tickNumber (hallTicked sent d .answer)
 
-sent-number : (d : Drive) → dueNow d ≡ true → (leb 65536 (numberIf d true) ≡ true) × (numberIf d false ≡ 0)
+sent-number : (d : Drive) → dueNow d ≡ true → (isReportNumber (numberIf d true) ≡ true) × (numberIf d false ≡ 0)
 unfolding dueNow
 sent-number d e =
     let w = and-left (wellFormed d) _ e in
     let x : numberIf d true ≡ 65536 + 256 * advance d .drive .position + statusOf (advance d .drive) = formed-number true d w in
     (le-leb 65536 (numberIf d true) (omega (arith, x)), formed-number false d w)
 
-held-number : (d : Drive) → leb 65536 (numberIf d false) ≡ false
+held-number : (d : Drive) → isReportNumber (numberIf d false) ≡ false
 held-number d =
     cases (wellFormed d)
     (λ w. rw (formed-number false d w))
     (λ w. rw (unformed-number false d w .0))
 
-pub due-number : (d : Drive) → leb 65536 (dueNumber d) ≡ dueNow d
+due-number : (d : Drive) → isReportNumber (dueNumber d) ≡ dueNow d
 due-number d = cases (dueNow d) (λ e. rw e (sent-number d e .0)) (λ e. rw e (held-number d))
 
 -- and is that of the drive which is sent if it is a report, and held otherwise, also where it is set to 0
-told : (isDue go : Bool) (f : Bool → ℕ) → (isDue ≡ true → (leb 65536 (f true) ≡ true) × (f false ≡ 0)) → leb 65536 (f false) ≡ false
-    → (let x = pick (leb 65536 (f isDue) && not go) 0 (f isDue) in x ≡ f (leb 65536 x))
+told : (isDue go : Bool) (f : Bool → ℕ) → (isDue ≡ true → (isReportNumber (f true) ≡ true) × (f false ≡ 0)) → isReportNumber (f false) ≡ false
+    → (let x = pick (isReportNumber (f isDue) && not go) 0 (f isDue) in x ≡ f (isReportNumber x))
 told true true f h k = rw (h refl .0) (ap f (sym (h refl .0)))
 told true false f h k = rw (h refl .0) (sym (h refl .1))
 told false go f h k = rw k (ap f (sym k))
 
-pub number-told : (d : Drive) (go : Bool)
-    → (let x = pick (leb 65536 (dueNumber d) && not go) 0 (dueNumber d) in x ≡ tickNumber (hallTicked (leb 65536 x) d .answer))
+number-told : (d : Drive) (go : Bool)
+    → (let x = pick (isReportNumber (dueNumber d) && not go) 0 (dueNumber d) in x ≡ tickNumber (hallTicked (isReportNumber x) d .answer))
 number-told d go = told (dueNow d) go (numberIf d) (sent-number d) (held-number d)
 
 -- a number that is kept or set to 0 is a report where it was one and goes
-kept-report : (x : ℕ) (go : Bool) → leb 65536 (pick (leb 65536 x && not go) 0 x) ≡ leb 65536 x && go
-kept-report x true = cases (leb 65536 x) (λ e. rw e e) (λ e. rw e e)
-kept-report x false = cases (leb 65536 x) (λ e. rw e) (λ e. rw e e)
+kept-report : (x : ℕ) (go : Bool) → isReportNumber (pick (isReportNumber x && not go) 0 x) ≡ isReportNumber x && go
+kept-report x true = cases (isReportNumber x) (λ e. rw e e) (λ e. rw e e)
+kept-report x false = cases (isReportNumber x) (λ e. rw e) (λ e. rw e e)
 
 module _ (ys : List Drive) (ws : List ℕ) (quota n : ℕ) where
   abbrev drive : ℕ → Drive
@@ -221,12 +222,12 @@ module _ (ys : List Drive) (ws : List ℕ) (quota n : ℕ) where
       due-at i l = tab-at (length ws) _ 0 i (omega arith) ∙ rw (lt-ltb i n l)
 
       is-due : (i : ℕ) → i < n → isDue i ≡ dueNow (drive i)
-      is-due i l = ap (leb 65536) (due-at i l) ∙ due-number (drive i)
+      is-due i l = ap isReportNumber (due-at i l) ∙ due-number (drive i)
 
-      chosen-at : (i : ℕ) → i < n → getD chosen i 0 ≡ pick (leb 65536 (dueNumber (drive i)) && not (go i)) 0 (dueNumber (drive i))
+      chosen-at : (i : ℕ) → i < n → getD chosen i 0 ≡ pick (isReportNumber (dueNumber (drive i)) && not (go i)) 0 (dueNumber (drive i))
       unfolding chosen kept
       chosen-at i l =
-          tab-at (length (dueBy n)) _ 0 i (omega (arith, due-length n)) ∙ rw (lt-ltb i n l) (ap (λ (x : ℕ). pick (leb 65536 x && not (go i)) 0 x) (due-at i l))
+          tab-at (length (dueBy n)) _ 0 i (omega (arith, due-length n)) ∙ rw (lt-ltb i n l) (ap (λ (x : ℕ). pick (isReportNumber x && not (go i)) 0 x) (due-at i l))
 
       chosen-behind : (i : ℕ) → n ≤ i → i < length ws → getD chosen i 0 ≡ getD ws i 0
       unfolding chosen kept dueBy
@@ -234,7 +235,7 @@ module _ (ys : List Drive) (ws : List ℕ) (quota n : ℕ) where
           tab-at (length (dueBy n)) _ 0 i (omega (arith, due-length n)) ∙ rw (le-ltb i n l) (tab-at (length ws) _ 0 i b ∙ rw (le-ltb i n l))
 
       sends-at : (i : ℕ) → i < n → sends i ≡ isDue i && go i
-      sends-at i l = ap (leb 65536) (chosen-at i l) ∙ kept-report (dueNumber (drive i)) (go i) ∙ ap (λ (x : ℕ). leb 65536 x && go i) (sym (due-at i l))
+      sends-at i l = ap isReportNumber (chosen-at i l) ∙ kept-report (dueNumber (drive i)) (go i) ∙ ap (λ (x : ℕ). isReportNumber x && go i) (sym (due-at i l))
 
       sends-due : (i : ℕ) → i < n → sends i ≡ true → dueNow (drive i) ≡ true
       sends-due i l e = sym (is-due i l) ∙ and-left (isDue i) _ (sym (sends-at i l) ∙ e)

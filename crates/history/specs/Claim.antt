@@ -154,8 +154,8 @@ abbrev pub Claim : Trace → Type 0
 Claim [] = Unit {0}
 Claim (m ∷ t) = Holds m t × Claim t
 
--- The sentences for a drive of a hall, whose reports may be held back (document 02, W-204): those about spacing, moves, content, other
--- events and refusals as they are, and of step 4 one direction.
+-- The sentences for a drive of a hall, whose reports may be held back (document 02, W-204): those about spacing, moves, position, content,
+-- other events and refusals as they are, and of step 4 one direction.
 
 -- a tick reports only if step 4 would
 abbrev pub OnlyDue : Moment → Trace → Type 0

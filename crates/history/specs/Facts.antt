@@ -317,7 +317,7 @@ facts-tick d t s true g j k q = facts-sent d t s g j k (q refl)
 facts-tick d t s false g j k q = facts-held d t s g j k
 
 -- The wait is no part of it (document 02, W-204).
-pub good-wait : (d : Drive) (t : C.Trace) (w : ℕ) → Good d t → Good (withWait d w) t
+good-wait : (d : Drive) (t : C.Trace) (w : ℕ) → Good d t → Good (withWait d w) t
 unfolding wellFormed
 good-wait d t w g =
     let a = g .agrees in

@@ -7,7 +7,7 @@ use native.Mathlib.Omega.{arith}
 use lib.Dec.{leb, eqb}
 use borrow.Author.Tests.{leb-true, le-leb, eqb-true}
 use Rattle.numbers.specs.Laws.{cases, and-left, or-left, or-right, not-false}
-use Rattle.numbers.specs.Counts.{report-apart, quiet-last}
+use Rattle.numbers.specs.CountLaws.{report-apart, quiet-last}
 use Rattle.table.specs.Table.{minRepTime, actPosCov, repPer}
 use Rattle.rules.specs.Report.{changed, Sent, silent, sent, differs, reportDue}
 use Rattle.answer.specs.declared.Answer.{Answer}

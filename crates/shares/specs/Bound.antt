@@ -5,31 +5,27 @@ use mathlib.Core.Bool.{Bool, true, false, not, _&&_, _||_, false≢true, and-fal
 use mathlib.Core.List.{List, [], _∷_, _++_, map}
 use Prim.Native.Nat.{ℕ, zero, suc, _+_, _<_, _≤_}
 use native.Mathlib.Omega.{arith}
-use native.Mathlib.Nat.{not-suc-le-zero, le-of-suc-le-suc}
+use native.Mathlib.Nat.{not-suc-le-zero}
 use lib.Dec.{ltb, leb, eqb}
 use lib.ListN.{length}
 use borrow.Author.Tests.{ltb-true, ltb-false, leb-true, eqb-true, eqb-false, le-ltb, le-leb, lt-leb, eq-eqb, ne-eqb}
 use Rattle.numbers.specs.Numbers.{pick, next}
 use Rattle.numbers.specs.Laws.{cases, and-left, and-right, and-intro, or-left, or-right}
-use Rattle.numbers.specs.Places.{placesFrom, tabulate, allBelow, countBelow, implies}
+use Rattle.numbers.specs.Places.{tabulate, allBelow, countBelow, implies}
 use Rattle.numbers.specs.PlaceLaws.{implied, all-at, none-counted, count-most, count-le, count-less, counted, tab-at}
-use Rattle.event.specs.Kinds as Kind
-use Rattle.event.specs.Event.{eventIn}
-use Rattle.event.specs.Laws.{admitted}
 use Rattle.damper.specs.declared.Drive.{Drive}
 use Rattle.damper.specs.Record.{freshDrive}
 use Rattle.damper.specs.WellFormed.{wellFormed}
-use Rattle.damper.specs.Tick.{advance, due, statusOf}
-use Rattle.damper.specs.Step.{tickWith, refusalOf, stepOf}
-use Rattle.damper.specs.Laws.{refusal-none}
+use Rattle.damper.specs.Tick.{advance, due}
+use Rattle.damper.specs.Step.{stepOf}
 use Rattle.damper.specs.Carry.{outcomes, driveAfter}
-use Rattle.invariant.specs.Effects.{wait-after, step-refused, step-accepted}
-use Rattle.invariant.specs.Kept.{wf-report, wf-advance, wf-step, formed-kept}
+use Rattle.invariant.specs.Kept.{wf-step, formed-kept}
 use Rattle.hall.specs.Hall.{Call, give, tick, tickRefusal, callRefusal, Given, bytes, hallTick, Turn, turn, turnsOf, at, rowAfter, turnsIn, sharedOut, share}
 use Rattle.hall.specs.Quota.{dueNow, waitAfter, hallTicked, hallStep, goesBefore, longest, allowed, allowedCall, allowedCalls}
 use Rattle.hall.specs.Laws.{row-length, ticked-fits}
 use Rattle.hall.specs.TickLaws.{tick-row}
-use Rattle.shares.specs.Shares.{turns-drive}
+use Rattle.shares.specs.Shares.{one-here, shared-append, turns-drive}
+use Rattle.shares.specs.WaitLaws.{restart, wait-event, wait-tick, wait-sent, wait-held, formed-ticked}
 
 -- Of what a drive is given: how many hall ticks, whether it is due at each of them, whether it is sent at one, whether it is restarted.
 
@@ -48,54 +44,14 @@ sentAtOne [] = false
 sentAtOne (bytes s ∷ gs) = sentAtOne gs
 sentAtOne (hallTick sent ∷ gs) = sent || sentAtOne gs
 
--- an accepted restart
-abbrev pub restart : Drive → List ℕ → Bool
-restart d s = eqb (refusalOf d s) 0 && eqb (eventIn s .kind) Kind.restart
-
 unfoldable pub restarted : Drive → List Given → Bool
 restarted d [] = false
 restarted d (bytes s ∷ gs) = restart d s || restarted (hallStep d (bytes s) .drive) gs
 restarted d (hallTick sent ∷ gs) = restarted (hallStep d (hallTick sent) .drive) gs
 
--- The wait of a drive: "Restart clears the wait; otherwise only hall ticks change it".
-
-module _ (d : Drive) where
-  -- over an event, accepted or refused
-  pub wait-event : (s : List ℕ) → stepOf d s .drive .wait ≡ pick (restart d s) 0 (d .wait)
-  wait-event s =
-      cases (eqb (refusalOf d s) 0)
-      (λ q.
-      let z = eqb-true _ 0 q in
-      rw (step-accepted d s z, q) (wait-after d (eventIn s) (admitted (eventIn s) (refusal-none d s z .2) .kind)))
-      (λ q. rw (step-refused d s (eqb-false _ 0 q), q))
-
-  -- over a hall tick; "a drive not well formed keeps it"
-  pub wait-tick : (sent : Bool) → hallTicked sent d .drive .wait ≡ pick (wellFormed d) (waitAfter (due (advance d .drive)) sent (d .wait)) (d .wait)
-  unfolding hallTicked
-  wait-tick sent = cases (wellFormed d) (λ w. rw w) (λ w. rw w)
-
-  -- "sent or not due it is 0"
-  pub wait-sent : wellFormed d ≡ true → hallTicked true d .drive .wait ≡ 0
-  wait-sent w = wait-tick true ∙ rw (w, and-false (due (advance d .drive)))
-
-  pub wait-undue : (sent : Bool) → wellFormed d ≡ true → dueNow d ≡ false → hallTicked sent d .drive .wait ≡ 0
-  unfolding dueNow
-  wait-undue sent w n = let u : due (advance d .drive) ≡ false = rw w at n in wait-tick sent ∙ rw (w, u)
-
-  -- due and not sent it rises by one, "stopping at 65,535"
-  pub wait-held : dueNow d ≡ true → hallTicked false d .drive .wait ≡ next (d .wait)
-  unfolding dueNow
-  wait-held n = wait-tick false ∙ rw (and-left (wellFormed d) _ n, and-right (wellFormed d) _ n)
-
-  due-formed : dueNow d ≡ true → wellFormed d ≡ true
-  unfolding dueNow
-  due-formed n = and-left (wellFormed d) _ n
-
-  -- a hall tick, too, leaves a record as well formed as it was
-  pub formed-ticked : (sent : Bool) → wellFormed (hallTicked sent d .drive) ≡ wellFormed d
-  unfolding hallTicked tickWith wellFormed
-  formed-ticked true = cases (wellFormed d) (λ w. rw w (wf-report (advance d .drive) (wf-advance d w) (statusOf (advance d .drive)))) (λ w. rw w w)
-  formed-ticked false = cases (wellFormed d) (λ w. rw w (wf-advance d w)) (λ w. rw w w)
+due-formed : (d : Drive) → dueNow d ≡ true → wellFormed d ≡ true
+unfolding dueNow
+due-formed d n = and-left (wellFormed d) _ n
 
 -- Where a drive is due there is one that goes before all others.
 
@@ -258,26 +214,6 @@ held-tick d k sent gs l h =
         unrestarted = h .unrestarted;
       },
     )
-
--- The share of a hall tick: one turn of each drive.
-
-none-before : (sends : ℕ → Bool) (i j n : ℕ) → i < j → sharedOut i (map (λ x. turn (hallTick (sends x)) x) (placesFrom j n)) ≡ []
-unfolding sharedOut
-none-before sends i j zero h = refl
-none-before sends i j (suc n) h = rw (ne-eqb j i (λ f. omega arith)) (none-before sends i (j + 1) n (omega arith))
-
-pub one-here : (sends : ℕ → Bool) (i j k n : ℕ) → k < n → i ≡ j + k
-    → sharedOut i (map (λ x. turn (hallTick (sends x)) x) (placesFrom j n)) ≡ hallTick (sends i) ∷ []
-unfolding sharedOut
-one-here sends i j k zero h e = absurd (not-suc-le-zero h)
-one-here sends i j zero (suc n) h e = let same : j ≡ i = omega arith in rw (eq-eqb j i same, none-before sends i (j + 1) n (omega arith), same)
-one-here sends i j (suc k) (suc n) h e = rw (ne-eqb j i (λ f. omega arith)) (one-here sends i (j + 1) k n (le-of-suc-le-suc h) (omega arith))
-
--- the share of turns in two parts
-pub shared-append : (i : ℕ) (ts us : List Turn) → sharedOut i (ts ++ us) ≡ sharedOut i ts ++ sharedOut i us
-unfolding sharedOut
-shared-append i [] us = refl
-shared-append i (t ∷ ts) us = rw (shared-append i ts us) (cases (eqb (t .place) i) (λ q. rw q) (λ q. rw q))
 
 -- it is one of those that wait
 held-counts : (row : List Drive) (i k : ℕ) (gs : List Given) → i < length row → Held (at row i) k gs → 0 < waiting k row

@@ -20,7 +20,7 @@ use Rattle.hall.specs.Quota.{dueNow, hallTicked, hallStep, longest, allowed, al
 use Rattle.shares.specs.Bound.{ticksGiven, dueAtEach, sentAtOne, restarted}
 
 -- `unfolding computation` opens drive and hall, so that a list of calls computes
-unfoldable computation : Unit {0}
+unfoldable pub computation : Unit {0}
 unfolding Closed.computation readOf allBelow countBelow badNumber callRefusal turnsOf rowAfter turnsIn hallAfter sharedOut dueNow hallTicked longest allowed allowedCalls ticksGiven dueAtEach sentAtOne restarted
 computation = tt
 
@@ -43,10 +43,10 @@ abbrev eager : ℕ → List Drive
 eager wait = closed 1 wait ∷ closed 1 wait ∷ closed 1 wait ∷ []
 
 -- a hall tick of quota 1 that sends the drive at place `j`, and an event given to the drive at place 2
-abbrev sending : ℕ → Call
+abbrev pub sending : ℕ → Call
 sending j = tick 1 (λ i. eqb i j) 3
 
-abbrev giving : ℕ → ℕ → Call
+abbrev pub giving : ℕ → ℕ → Call
 giving kind a = give (2 ∷ []) (bytesOf (event kind a 0 0)) 1
 
 abbrev two : List Call
@@ -66,14 +66,15 @@ unfolding computation
 last-of-three = (refl, refl, refl, refl, refl, refl)
 
 -- So it is from waits that have stopped: the lower number goes first among equals, and the wait stays at 65,535 while the drive is held.
-pub last-of-three-stopped : (allowedCalls (eager 65535) three ≡ true)
+pub last-of-three-stopped : (wellFormed (at (eager 65535) 2) ≡ true)
+    × (allowedCalls (eager 65535) three ≡ true)
     × (ticksGiven (share 3 2 three) ≡ 3)
     × (dueAtEach (at (eager 65535) 2) (share 3 2 three) ≡ true)
     × (restarted (at (eager 65535) 2) (share 3 2 three) ≡ false)
     × (sentAt (share 3 2 three) ≡ false ∷ false ∷ true ∷ [])
     × (at (hallAfter hallStep (eager 65535) two) 2 .wait ≡ 65535)
 unfolding computation
-last-of-three-stopped = (refl, refl, refl, refl, refl, refl)
+last-of-three-stopped = (refl, refl, refl, refl, refl, refl, refl)
 
 -- Two ticks are too few.
 pub two-too-few : (allowedCalls (eager 0) two ≡ true)

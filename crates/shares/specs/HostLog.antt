@@ -4,7 +4,7 @@ use mathlib.Core.Bool.{Bool, true, false, not, _||_}
 use mathlib.Core.List.{List, [], _∷_, _++_, map}
 use Prim.Native.Nat.{ℕ, _+_, _*_, _-_, _/_, _%_, _<_, _≤_}
 use native.Mathlib.Omega.{arith}
-use lib.Dec.{leb, eqb}
+use lib.Dec.{eqb}
 use lib.ListN.{length, getD}
 use borrow.Author.Tests.{le-leb, eqb-true}
 use Rattle.numbers.specs.Numbers.{pick, on, bit}
@@ -19,28 +19,28 @@ use Rattle.damper.specs.WellFormed.{wellFormed}
 use Rattle.damper.specs.Step.{tickWith, stepOf}
 use Rattle.damper.specs.Carry.{outcomes, answersIn}
 use Rattle.damper.specs.CarryLaws.{outcomes-append}
+use Rattle.choice.specs.Sent.{isReportNumber}
 use Rattle.hall.specs.Hall.{Call, give, tick, isTick, callRefusal, bytes, hallTick, turn, turnsOf, at, rowAfter, tickNumber, answersAfter, turnsIn, sharedOut, share}
 use Rattle.hall.specs.Quota.{hallTicked, hallStep, allowedCalls}
 use Rattle.hall.specs.Laws.{row-length}
 use Rattle.hall.specs.TickLaws.{number-among}
 use Rattle.history.specs.Log.{Entry}
 use Rattle.history.specs.Claim.{reportIn, entriesOf, reportsFrom}
-use Rattle.shares.specs.Shares.{turns-drive, share-answers}
-use Rattle.shares.specs.Bound.{one-here, shared-append}
+use Rattle.shares.specs.Shares.{one-here, shared-append, turns-drive, share-answers}
 use Rattle.shares.specs.SharedLog.{sharedLog}
 use Rattle.shares.specs.Theorem.{no-tick, quiet, share-log}
 
 -- what the number of a drive at a hall tick says: "65,536 + 256 × position + status for a report"
 abbrev pub readOff : ℕ → Sent
-readOff n = pick (leb 65536 n) (sent ((n - 65536) / 256) ((n - 65536) % 256)) silent
+readOff n = pick (isReportNumber n) (sent ((n - 65536) / 256) ((n - 65536) % 256)) silent
 
 -- what a call says of the drive at place `i`, by the number that refuses it, 0 if none does, and its answer row after it
-abbrev pub heard : ℕ → Call → ℕ → List ℕ → Sent
+abbrev heard : ℕ → Call → ℕ → List ℕ → Sent
 heard i (give list s room) n answers = silent
 heard i (tick quota sends room) n answers = pick (eqb n 0) (readOff (getD answers i 0)) silent
 
 -- a report comes before the later ones, silence is not noted
-abbrev pub noted : Sent → List Sent → List Sent
+abbrev noted : Sent → List Sent → List Sent
 noted silent log = log
 noted (sent p s) log = sent p s ∷ log
 
@@ -72,7 +72,12 @@ bit-most false w = omega arith
 status-byte : (c : Commands) (r : ℕ) (b : Bool) → status c r b < 256
 unfolding status
 status-byte c r b =
-    omega (arith, bit-most (on (c .fault)) 1, bit-most (on (c .hand) || on (c .tool)) 2, bit-most (calibrating r) 4, bit-most (syncing r) 8, bit-most (forced (c .forcing)) 16, bit-most (not b) 32)
+    let one = bit-most (on (c .fault)) 1 in
+    let two = bit-most (on (c .hand) || on (c .tool)) 2 in
+    let run = bit-most (calibrating r) 4 in
+    let sync = bit-most (syncing r) 8 in
+    let force = bit-most (forced (c .forcing)) 16 in
+    omega (arith, one, two, run, sync, force, bit-most (not b) 32)
 
 report-read : (p s : ℕ) → s < 256 → readOff (65536 + 256 * p + s) ≡ sent p s
 report-read p s h =
@@ -121,7 +126,8 @@ heard-said row i h (tick quota sends room) answers later =
     cases (eqb (callRefusal (length row) (tick quota sends room)) 0)
     (λ q.
     let n = length row in
-    rw (q, number-among hallStep (λ x. hallTick (sends x)) tickNumber _ n row 0 i i h (omega arith), number-read (sends i) (at row i), one-here sends i 0 i n h (omega arith)))
+    let given = one-here sends i 0 i n h (omega arith) in
+    rw (q, number-among hallStep (λ x. hallTick (sends x)) tickNumber _ n row 0 i i h (omega arith), number-read (sends i) (at row i), given))
     (λ q. rw q)
 
 -- The log of a drive's place says what its share does, whatever drive stood there.

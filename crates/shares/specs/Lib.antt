@@ -1,14 +1,15 @@
 -- A hall's calls seen from each of its drives: its own share of them decides its record and its answers, the sentences of demand 3 hold of
 -- it, of that about waiting what the quota leaves, a host reads its reports off the numbers of the hall ticks, the shift page shows what the
--- share says, and no report that stays due waits longer than as many hall ticks as the hall has drives.
+-- share says, and a drive that stays due and is not restarted meanwhile is sent within as many hall ticks as the hall has drives.
 pub mod Shares
+pub mod WaitLaws
 pub mod Bound
 pub mod BoundWitnesses
 pub mod SharedLog
 pub mod Theorem
 pub mod Waiting
-pub mod WaitingWitness
 pub mod Waited
+pub mod WaitingWitnesses
 pub mod HostLog
 pub mod PageRead
 pub mod Witnesses

@@ -1,18 +1,51 @@
 -- For every step, every row of drives and every list of calls: a place ends with the drive, and its turns got the answers, that the
--- list of its share gives to the drive that stood there.
-use mathlib.Core.Path.{_≡_, refl, ap, _∙_}
-use mathlib.Core.List.{List, [], _∷_}
-use Prim.Native.Nat.{ℕ, _<_}
+-- list of its share gives to the drive that stood there. Before that, the share of a hall tick and of two lists.
+use mathlib.Core.Path.{_≡_, refl, sym, ap, _∙_}
+use mathlib.Core.Bool.{Bool}
+use mathlib.Core.List.{List, [], _∷_, _++_, map, append-assoc}
+use Prim.Native.Nat.{ℕ, zero, suc, _+_, _<_}
+use native.Mathlib.Omega.{arith}
+use native.Mathlib.Nat.{not-suc-le-zero, le-of-suc-le-suc}
 use lib.Dec.{eqb}
 use lib.ListN.{length}
 use lib.Seq.{lt-length-set}
-use borrow.Author.Tests.{eqb-true, eqb-false, ne-eqb}
+use borrow.Author.Tests.{eqb-true, eqb-false, eq-eqb, ne-eqb}
 use Rattle.numbers.specs.Laws.{cases}
+use Rattle.numbers.specs.Places.{placesFrom}
 use Rattle.damper.specs.declared.Drive.{Drive}
 use Rattle.damper.specs.Carry.{StepOn, outcomes, driveAfter, answersIn}
-use Rattle.hall.specs.Hall.{Call, callRefusal, Given, Turn, turnsOf, at, rowWith, turned, rowAfter, answersAfter, turnsIn, hallAfter, hallTurned, sharedOut, ownOf, share, own}
+use Rattle.hall.specs.Hall.{Call, callRefusal, Given, hallTick, Turn, turn, turnsOf, at, rowWith, turned, rowAfter, answersAfter, turnsIn, hallAfter, hallTurned, sharedOut, ownOf, share, own}
 use Rattle.hall.specs.Laws.{row-append, turned-append, row-length}
 use Rattle.hall.specs.TickLaws.{here, elsewhere}
+
+-- The share of a hall tick: one turn of each drive.
+
+none-before : (sends : ℕ → Bool) (i j n : ℕ) → i < j → sharedOut i (map (λ x. turn (hallTick (sends x)) x) (placesFrom j n)) ≡ []
+unfolding sharedOut
+none-before sends i j zero h = refl
+none-before sends i j (suc n) h = rw (ne-eqb j i (λ f. omega arith)) (none-before sends i (j + 1) n (omega arith))
+
+pub one-here : (sends : ℕ → Bool) (i j k n : ℕ) → k < n → i ≡ j + k
+    → sharedOut i (map (λ x. turn (hallTick (sends x)) x) (placesFrom j n)) ≡ hallTick (sends i) ∷ []
+unfolding sharedOut
+one-here sends i j k zero h e = absurd (not-suc-le-zero h)
+one-here sends i j zero (suc n) h e = let same : j ≡ i = omega arith in rw (eq-eqb j i same, none-before sends i (j + 1) n (omega arith), same)
+one-here sends i j (suc k) (suc n) h e = rw (ne-eqb j i (λ f. omega arith)) (one-here sends i (j + 1) k n (le-of-suc-le-suc h) (omega arith))
+
+-- the share of turns in two parts
+pub shared-append : (i : ℕ) (ts us : List Turn) → sharedOut i (ts ++ us) ≡ sharedOut i ts ++ sharedOut i us
+unfolding sharedOut
+shared-append i [] us = refl
+shared-append i (t ∷ ts) us = rw (shared-append i ts us) (cases (eqb (t .place) i) (λ q. rw q) (λ q. rw q))
+
+-- the share of calls in two parts
+turns-append : (n : ℕ) (cs ds : List Call) → turnsIn n (cs ++ ds) ≡ turnsIn n cs ++ turnsIn n ds
+unfolding turnsIn
+turns-append n [] ds = refl
+turns-append n (c ∷ cs) ds = rw (turns-append n cs ds) (sym (append-assoc (turnsOf n c) (turnsIn n cs) (turnsIn n ds)))
+
+pub share-append : (n i : ℕ) (cs ds : List Call) → share n i (cs ++ ds) ≡ share n i cs ++ share n i ds
+share-append n i cs ds = rw (turns-append n cs ds) (shared-append i (turnsIn n cs) (turnsIn n ds))
 
 -- a call that is refused itself has no turns
 refused-turns : (n : ℕ) (c : Call) → (callRefusal n c ≡ 0 → ⊥) → turnsOf n c ≡ []

@@ -1,6 +1,6 @@
 -- "What was promised of one drive's list of events now holds, for each drive that was fresh at first, of its own share of the hall's
 -- calls": whatever the other drives were, and whatever the calls list and have room for. Of waiting, W-204 leaves what its quota allows: a
--- hall tick sends only drives that are due, and "a last tick that breaks that limb always finds its drive due".
+-- hall tick sends only drives that are due, and "a last tick that breaks that limb always finds its drive due", here at one moment.
 use mathlib.Core.Path.{_≡_, refl, sym, _∙_}
 use mathlib.Core.Bool.{Bool, true, false, not, _&&_, _||_}
 use mathlib.Core.List.{List, [], _∷_, _++_, map}
@@ -20,6 +20,7 @@ use Rattle.answer.specs.Answer.{isReport}
 use Rattle.rules.specs.Refusal.{stateRefusal, refusal}
 use Rattle.rules.specs.RefusalLaws.{refusal-passed}
 use Rattle.damper.specs.declared.Drive.{Drive}
+use Rattle.damper.specs.declared.Outcome.{Outcome}
 use Rattle.damper.specs.Record.{freshDrive}
 use Rattle.damper.specs.WellFormed.{wellFormed}
 use Rattle.damper.specs.Step.{tickWith, applied, refusalOf, stepOf}
@@ -30,13 +31,13 @@ use Rattle.invariant.specs.Effects.{report-after, step-accepted, step-refused, 
 use Rattle.hall.specs.Hall.{Call, give, tick, badRow, badNumber, isTick, badEvent, tickRefusal, callRefusal, Given, bytes, hallTick, turn, tickBytes, bytesIn, turnsOf, at, rowAfter, turnsIn, hallAfter, sharedOut, share, own}
 use Rattle.hall.specs.Quota.{dueNow, hallTicked, hallStep, allowed, allowedCall, allowedCalls}
 use Rattle.hall.specs.Laws.{row-length}
+use Rattle.history.specs.Readings as Readings
 use Rattle.history.specs.Readings.{judgement}
-use Rattle.history.specs.Claim.{Moment, Trace, momentOf, accepted, reportIn, Waiting, dueIn, HallHolds, HallClaim, traceOn, reportsFrom}
+use Rattle.history.specs.Claim.{Moment, Trace, momentOf, accepted, acceptedAs, reportIn, Waiting, dueIn, HallHolds, HallClaim, traceOn, reportsFrom}
 use Rattle.history.specs.Waits.{silent-in}
 use Rattle.history.specs.Facts.{Good, Facts, due-read, facts-tick, facts-wait}
 use Rattle.history.specs.Theorem.{facts, hall-holds, trace-length, fresh-good}
-use Rattle.shares.specs.Shares.{turns-drive, share-drive, share-answers}
-use Rattle.shares.specs.Bound.{one-here, shared-append}
+use Rattle.shares.specs.Shares.{one-here, shared-append, turns-drive, share-drive, share-answers}
 use Rattle.shares.specs.SharedLog.{sharedLogFrom, sharedLog}
 
 -- the trace of the drive at place `i`, built from the hall's own turns: what they give, their answers and the positions that they leave
@@ -108,6 +109,16 @@ pub tick-accepted : (t : Trace) → judgement (accepted t) tickBytes ≡ 0
 unfolding judgement refusal recordRefusal dataRefusal formOf stateRefusal
 tick-accepted t = refl
 
+-- bytes that are no tick are none that the list accepts
+pub no-tick-in : (t : Trace) (s : List ℕ) (o : Outcome) → isTick s ≡ false → acceptedAs Readings.isTick (momentOf s o) t ≡ false
+unfolding readOf judgement
+no-tick-in t s o n =
+    cases (eqb (judgement (accepted t) s) 0)
+    (λ q.
+    let k : eqb (eventIn s .kind) 1 ≡ false = rw (refusal-passed s _ _ _ _ _ (eqb-true _ 0 q) .0) at n in
+    rw (q, k))
+    (λ q. rw q)
+
 -- What one thing given does to a drive that agrees with its trace.
 module _ (d : Drive) (t : Trace) (g : Good d t) where
   pub facts-hall : (sent : Bool) → implies sent (dueNow d) ≡ true → Facts d t tickBytes (hallTicked sent d)
@@ -157,7 +168,7 @@ module _ (row : List Drive) (cs : List Call) (i : ℕ) (h : i < length row) (fre
       (goods (share (length row) i cs) freshDrive [] fresh-good fits)
 
 -- "a last tick that breaks that limb always finds its drive due": of any trace, where the sentence about waiting is broken, step 4 would
--- report; and of a drive that agrees with its trace, the hall tick found it due
+-- report; and of a drive that agrees with its trace, the hall tick found it due (over every list of calls in Waiting.antt)
 pub broken-due : (m : Moment) (t : Trace) → HallHolds m t → (Waiting m t → ⊥) → dueIn m t ≡ true
 broken-due m t h b = cases (dueIn m t) (λ q. q) (λ q. absurd (b (h .waiting q)))
 
@@ -168,12 +179,6 @@ finds-due d t g sent q b =
     let o = hallTicked sent d in
     let h = hall-holds d t tickBytes o (facts-hall d t g sent q) in
     and-intro (g .wf) (due-read d t tickBytes g (tick-accepted t) refl o ∙ broken-due (momentOf tickBytes o) t h b)
-
--- so after every list, at the hall tick that comes next
-pub share-finds-due : (row : List Drive) (cs : List Call) (i : ℕ) → i < length row → at row i ≡ freshDrive → allowedCalls row cs ≡ true
-    → (let d = at (hallAfter hallStep row cs) i in
-    (sent : Bool) → implies sent (dueNow d) ≡ true → (Waiting (momentOf tickBytes (hallTicked sent d)) (shareTrace row i cs) → ⊥) → dueNow d ≡ true)
-share-finds-due row cs i h fresh a sent q b = finds-due _ _ (share-good row cs i h fresh a) sent q b
 
 -- The trace has as many records as the share, whatever the drive was.
 pub share-whole : (row : List Drive) (cs : List Call) (i : ℕ) → i < length row → length (shareTrace row i cs) ≡ length (share (length row) i cs)

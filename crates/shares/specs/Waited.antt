@@ -5,36 +5,27 @@ use mathlib.Core.Bool.{Bool, true, false, not, _&&_}
 use mathlib.Core.List.{List, [], _∷_, map}
 use Prim.Native.Nat.{ℕ, _+_, _<_, min}
 use native.Mathlib.Omega.{arith}
-use lib.Dec.{eqb}
-use lib.ListN.{length, take}
-use borrow.Author.Tests.{eqb-true, not-true}
+use lib.ListN.{length}
+use borrow.Author.Tests.{not-true}
 use Rattle.numbers.specs.Numbers.{pick, next}
-use Rattle.numbers.specs.Laws.{cases, and-left, and-right}
-use Rattle.numbers.specs.Counts as Counts
-use Rattle.numbers.specs.Places.{allBelow, countBelow, implies}
-use Rattle.event.specs.Event.{event, bytesOf, eventIn, readOf}
-use Rattle.event.specs.Kinds as Kind
-use Rattle.rules.specs.Report.{reportDue}
-use Rattle.rules.specs.RefusalLaws.{refusal-passed}
+use Rattle.numbers.specs.Laws.{and-left, and-right}
+use Rattle.numbers.specs.Places.{implies}
 use Rattle.damper.specs.declared.Drive.{Drive}
-use Rattle.damper.specs.declared.Outcome.{Outcome}
 use Rattle.damper.specs.Record.{freshDrive}
 use Rattle.damper.specs.Tick.{advance, due}
 use Rattle.damper.specs.Step.{refusalOf, stepOf}
 use Rattle.damper.specs.Carry.{outcomes, driveAfter}
-use Rattle.damper.specs.Closed as Closed
 use Rattle.invariant.specs.Effects.{refusal-wf}
 use Rattle.hall.specs.Hall as H
-use Rattle.hall.specs.Hall.{Call, give, tick, badNumber, callRefusal, Given, bytes, hallTick, tickBytes, bytesIn, turnsOf, at, turned, rowAfter, turnsIn, hallAfter, hallTurned, sharedOut, ownOf, share}
-use Rattle.hall.specs.Quota.{dueNow, hallTicked, hallStep, longest, allowed, allowedCalls}
+use Rattle.hall.specs.Hall.{Call, Given, bytes, hallTick, tickBytes, bytesIn, at, hallAfter, share}
+use Rattle.hall.specs.Quota.{dueNow, hallTicked, hallStep, allowedCalls}
 use Rattle.history.specs.Readings.{isTick, isRestart, judgement}
-use Rattle.history.specs.Closed.{readings}
-use Rattle.history.specs.Claim.{Trace, momentOf, accepted, acceptedAs, reports, lastReport, dueIn, traceOn}
+use Rattle.history.specs.Claim.{Trace, momentOf, accepted, acceptedAs, reports, dueIn, traceOn}
 use Rattle.history.specs.Facts.{Good, judged, due-read}
 use Rattle.history.specs.Theorem.{facts, fresh-good}
 use Rattle.shares.specs.Shares.{share-drive, share-answers}
-use Rattle.shares.specs.Bound.{restart, wait-event, wait-tick}
-use Rattle.shares.specs.Theorem.{shareTrace, fitting, share-fits, tick-accepted, facts-hall, sent-reports}
+use Rattle.shares.specs.WaitLaws.{restart, wait-event, wait-tick}
+use Rattle.shares.specs.Theorem.{shareTrace, fitting, share-fits, tick-accepted, no-tick-in, facts-hall, sent-reports}
 
 -- how many hall ticks in a row the drive was due and not sent, up to now, read off its trace: an accepted restart begins anew, and so does
 -- a tick at which it is sent or not due
@@ -52,16 +43,6 @@ event-law false a n e = e
 tick-law : (b : Bool) (a n : ℕ) → a ≡ min n 65535 → pick b (next a) 0 ≡ min (pick b (n + 1) 0) 65535
 tick-law true a n e = omega arith
 tick-law false a n e = refl
-
--- bytes that are no tick are none that the list accepts
-no-tick-in : (t : Trace) (s : List ℕ) (o : Outcome) → H.isTick s ≡ false → acceptedAs isTick (momentOf s o) t ≡ false
-unfolding readOf judgement
-no-tick-in t s o n =
-    cases (eqb (judgement (accepted t) s) 0)
-    (λ q.
-    let k : eqb (eventIn s .kind) 1 ≡ false = rw (refusal-passed s _ _ _ _ _ (eqb-true _ 0 q) .0) at n in
-    rw (q, k))
-    (λ q. rw q)
 
 -- What one thing given does to the wait of a drive that agrees with its trace.
 module _ (d : Drive) (t : Trace) (g : Good d t) (w : d .wait ≡ min (waitOf t) 65535) where
@@ -102,26 +83,3 @@ unfolding waitOf
 share-wait row cs i h fresh a =
     rw (share-answers hallStep row cs i h, share-drive hallStep row cs i h, fresh)
     (waited (share (length row) i cs) freshDrive [] fresh-good (rw (← fresh) (share-fits cs row i h a)) refl)
-
--- By computation, in a hall of three.
-
--- `unfolding computation` opens drive, hall and trace
-unfoldable computation : Unit {0}
-unfolding Closed.computation readings readOf allBelow countBelow badNumber callRefusal turnsOf turned rowAfter turnsIn hallTurned sharedOut ownOf dueNow hallTicked longest allowed allowedCalls accepted lastReport traceOn Counts.since reportDue waitOf
-computation = tt
-
-abbrev three : List Drive
-three = freshDrive ∷ freshDrive ∷ freshDrive ∷ []
-
--- MinRepTime 1 for them all, then three hall ticks of quota 1, which send the drives at places 0, 1 and 2
-abbrev sending : ℕ → Call
-sending j = tick 1 (λ i. eqb i j) 3
-
-abbrev calls : List Call
-calls = give (0 ∷ 1 ∷ 2 ∷ []) (bytesOf (event Kind.write 117 0 1)) 3 ∷ sending 0 ∷ sending 1 ∷ sending 2 ∷ []
-
--- place 2, never reported and so due, is held twice and then sent
-pub held-twice : (allowedCalls three calls ≡ true)
-    × (map (λ k. waitOf (shareTrace three 2 (take k calls))) (1 ∷ 2 ∷ 3 ∷ 4 ∷ []) ≡ 0 ∷ 1 ∷ 2 ∷ 0 ∷ [])
-unfolding computation
-held-twice = (refl, refl)

@@ -1,18 +1,18 @@
 -- Document 02, W-204: the bound "replaces the waiting limb for halls". What it leaves of that limb: of a drive that was fresh at first, and
--- not restarted meanwhile, the old sentence about waiting is not broken at as many hall ticks in a row as the row has drives.
+-- not restarted meanwhile, the old sentence about waiting is not broken at as many hall ticks in a row as the row has drives; and "a last
+-- tick that breaks that limb always finds its drive due".
 use mathlib.Core.Path.{_≡_, refl, sym, subst, ap, _∙_}
 use mathlib.Core.Bool.{Bool, true, false, not, false≢true}
 use mathlib.Core.List.{List, [], _∷_, _++_, map, append-assoc, append-cancel-right}
 use Prim.Native.Nat.{ℕ, _+_, _<_, _≤_}
 use native.Mathlib.Omega.{arith}
-use lib.Dec.{ltb, eqb}
+use lib.Dec.{ltb}
 use lib.ListN.{length}
-use borrow.Author.Tests.{ltb-true, ltb-false, eqb-true, not-true}
+use borrow.Author.Tests.{ltb-true, ltb-false, not-true}
 use Rattle.numbers.specs.Laws.{cases, and-left, and-right, and-intro}
 use Rattle.numbers.specs.Places.{implies}
 use Rattle.numbers.specs.Counts as Counts
-use Rattle.event.specs.Event.{eventIn, readOf}
-use Rattle.rules.specs.RefusalLaws.{refusal-passed}
+use Rattle.numbers.specs.CountLaws.{quiet-last}
 use Rattle.damper.specs.declared.Drive.{Drive}
 use Rattle.damper.specs.declared.Outcome.{Outcome}
 use Rattle.damper.specs.Record.{freshDrive}
@@ -20,15 +20,16 @@ use Rattle.damper.specs.Step.{stepOf}
 use Rattle.damper.specs.Carry.{outcomes, driveAfter}
 use Rattle.invariant.specs.Effects.{refusal-wf}
 use Rattle.hall.specs.Hall as H
-use Rattle.hall.specs.Hall.{Call, Given, bytes, hallTick, tickBytes, bytesIn, turnsOf, at, turnsIn, hallAfter, rowAfter, share}
+use Rattle.hall.specs.Hall.{Call, tick, callRefusal, Given, bytes, hallTick, tickBytes, bytesIn, turnsOf, at, turnsIn, hallAfter, rowAfter, sharedOut, share}
 use Rattle.hall.specs.Quota.{dueNow, hallTicked, hallStep, allowedCall, allowedCalls}
-use Rattle.history.specs.Readings.{isTick, isRestart, judgement}
-use Rattle.history.specs.Claim.{Moment, Trace, momentOf, accepted, acceptedAs, reports, ticksIn, Waiting, traceOn}
+use Rattle.history.specs.Readings.{isTick, isRestart}
+use Rattle.history.specs.Claim.{Moment, Trace, momentOf, acceptedAs, reports, ticksIn, Waiting, traceOn}
 use Rattle.history.specs.Facts.{Good, good-time, judged}
 use Rattle.history.specs.Theorem.{facts}
-use Rattle.shares.specs.Shares.{hall-length, share-drive, share-answers}
-use Rattle.shares.specs.Bound.{ticksGiven, dueAtEach, sentAtOne, restart, restarted, shared-append, sent-in-time}
-use Rattle.shares.specs.Theorem.{shareTrace, fitting, share-fits, tick-accepted, facts-hall, share-good, finds-due, sent-reports}
+use Rattle.shares.specs.Shares.{one-here, shared-append, share-append, hall-length, share-drive, share-answers}
+use Rattle.shares.specs.WaitLaws.{restart}
+use Rattle.shares.specs.Bound.{ticksGiven, dueAtEach, sentAtOne, restarted, sent-in-time}
+use Rattle.shares.specs.Theorem.{shareTrace, fitting, share-fits, tick-accepted, no-tick-in, facts-hall, share-good, finds-due, sent-reports}
 
 -- among the moments of `new`, which came after `old`: the sentence about waiting is broken at each accepted tick, and no restart is accepted
 pub data Broken (old : Trace) : Trace → Type 0 where
@@ -88,18 +89,14 @@ module _ (d : Drive) (t : Trace) (g : Good d t) where
   -- an event other than a tick: it is no tick that the list accepts, and no restart that the drive does
   event-first : (s : List ℕ) → H.isTick s ≡ false → let m = momentOf s (stepOf d s) in Broken t (m ∷ [])
       → (restart d s ≡ false) × (ticksIn (m ∷ []) t ≡ 0)
-  unfolding readOf judgement Counts.ticksIn
-  event-first s n (atTick k w b) =
-      let j = eqb-true _ 0 (and-left (eqb (judgement (accepted t) s) 0) _ k) in
-      let r = refusal-passed s _ _ _ _ _ j .0 in
-      let u : eqb (eventIn s .kind) 1 ≡ false = rw r at n in
-      absurd (false≢true (sym u ∙ and-right (eqb (judgement (accepted t) s) 0) _ k))
+  unfolding Counts.ticksIn
+  event-first s n (atTick k w b) = absurd (false≢true (sym (no-tick-in t s (stepOf d s) n) ∙ k))
   event-first s n (other k r b) = (rw (refusal-wf d s (g .wf) ∙ judged d t s g) r, rw k)
 
 -- a report breaks no wait, of a drive after it that agrees with its trace
 report-waits : (d : Drive) (m : Moment) (t : Trace) → Good d (m ∷ t) → reports m ≡ true → Waiting m t
 report-waits d m t g e row old s k n q =
-    let l = Counts.quiet-last (acceptedAs isTick) (λ y u. reports y) (acceptedAs isRestart) m t row old s (rw n (good-time d (m ∷ t) g)) q in
+    let l = quiet-last (acceptedAs isTick) (λ y u. reports y) (acceptedAs isRestart) m t row old s (rw n (good-time d (m ∷ t) g)) q in
     absurd (false≢true (sym (l .1) ∙ e))
 
 module _ (d : Drive) (t : Trace) (g : Good d t) where
@@ -155,15 +152,7 @@ held-back (hallTick sent ∷ gs) d t g q b =
       count = ap (λ (u : Trace). ticksIn u t) whole ∙ ticks-split (grown (o .drive) gs) m t ∙ omega (arith, first .2, rest .count);
     }
 
--- A list of calls in two parts.
-turns-append : (n : ℕ) (cs ds : List Call) → turnsIn n (cs ++ ds) ≡ turnsIn n cs ++ turnsIn n ds
-unfolding turnsIn
-turns-append n [] ds = refl
-turns-append n (c ∷ cs) ds = rw (turns-append n cs ds) (sym (append-assoc (turnsOf n c) (turnsIn n cs) (turnsIn n ds)))
-
-share-append : (n i : ℕ) (cs ds : List Call) → share n i (cs ++ ds) ≡ share n i cs ++ share n i ds
-share-append n i cs ds = rw (turns-append n cs ds) (shared-append i (turnsIn n cs) (turnsIn n ds))
-
+-- a list of calls in two parts
 allowed-parts : (cs ds : List Call) (row : List Drive) → allowedCalls row (cs ++ ds) ≡ true
     → (allowedCalls row cs ≡ true) × (allowedCalls (hallAfter hallStep row cs) ds ≡ true)
 unfolding allowedCalls hallAfter
@@ -182,7 +171,31 @@ share-grown row before after i h =
     rw (whole, part, share-append n i before after, share-drive hallStep row before i h)
     (trace-append (share n i before) (share n i after) (at row i) [] ∙ trace-parts _ _ _)
 
--- The old sentence is not broken at as many hall ticks in a row as the row has drives.
+-- "a last tick that breaks that limb always finds its drive due", over every list of calls: the last of them is a hall tick that is carried
+-- out, its moment is the latest of the drive's trace, and where the sentence about waiting is broken there, the drive was due before it.
+pub share-finds-due : (row : List Drive) (cs : List Call) (i quota : ℕ) (sends : ℕ → Bool) (room : ℕ) → i < length row → at row i ≡ freshDrive
+    → allowedCalls row (cs ++ (tick quota sends room ∷ [])) ≡ true → callRefusal (length row) (tick quota sends room) ≡ 0
+    → (let d = at (hallAfter hallStep row cs) i in
+    let m = momentOf tickBytes (hallTicked (sends i) d) in
+    (shareTrace row i (cs ++ (tick quota sends room ∷ [])) ≡ m ∷ shareTrace row i cs)
+    × ((Waiting m (shareTrace row i cs) → ⊥) → dueNow d ≡ true))
+unfolding turnsOf turnsIn sharedOut fitting traceOn outcomes
+share-finds-due row cs i quota sends room h fresh a c =
+    let n = length row in
+    let row′ = hallAfter hallStep row cs in
+    let last = tick quota sends room ∷ [] in
+    let size : length row′ ≡ n = hall-length hallStep row cs in
+    let both = allowed-parts cs last row a in
+    let given : share n i last ≡ hallTick (sends i) ∷ [] =
+    shared-append i (turnsOf n (tick quota sends room)) [] ∙ rw (c, one-here sends i 0 i n h (omega arith)) in
+    let fit : fitting (at row′ i) (hallTick (sends i) ∷ []) ≡ true = rw (size, given) at (share-fits last row′ i (rw size h) (both .1)) in (
+      share-grown row cs last i h ∙ rw given,
+      finds-due (at row′ i) (shareTrace row i cs) (share-good row cs i h fresh (both .0)) (sends i)
+          (and-left (implies (sends i) (dueNow (at row′ i))) _ fit),
+    )
+
+-- The old sentence is not broken at as many hall ticks in a row as the row has drives, of a drive that was fresh at first
+-- and not restarted between them: `Broken` has no accepted restart.
 pub waiting-bound : (row : List Drive) (before after : List Call) (i : ℕ) → i < length row → at row i ≡ freshDrive
     → allowedCalls row (before ++ after) ≡ true
     → (new : Trace) → shareTrace row i (before ++ after) ≡ new ++ shareTrace row i before → Broken (shareTrace row i before) new

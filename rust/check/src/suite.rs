@@ -12,6 +12,8 @@ use std::time::Instant;
 
 /// A count of `Cover` or `HallCover` below this is a failure.
 const LEAST_COVER: u64 = 1_000;
+/// One hall tick that is not refused, at least, for as many events on lists.
+const EVENTS_A_HALL_TICK: u64 = 40;
 /// Lists that are replayed.
 const REPLAYS: u32 = 20_000;
 /// Events and steps for each wrong drive.
@@ -46,6 +48,11 @@ pub fn run<S: Subject + Hall + ?Sized>(subject: &S, events: u64, steps: u64, see
     passed &= wrong_halls(seeds[0]);
     passed &= covered("met", cover.counts());
     passed &= covered("met in halls", hall_cover.counts());
+    let hall_ticks = events * seeds.len() as u64 / EVENTS_A_HALL_TICK;
+    if hall_cover.ticked < hall_ticks {
+        println!("fewer than {hall_ticks} hall ticks");
+        passed = false;
+    }
     println!("{}", if passed { "all passed" } else { "FAILED" });
     passed
 }

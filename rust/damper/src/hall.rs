@@ -8,6 +8,9 @@ use core::fmt;
 /// The most drives of a hall, and the most entries of a list.
 pub const HALL_MOST: usize = 64;
 
+/// The most reports that a hall tick may be asked to send.
+pub const HALL_QUOTA: u32 = 64;
+
 /// Bytes of a drive's line on the shift page: 28 columns and a line feed.
 pub const HALL_LINE: usize = 29;
 
@@ -43,7 +46,7 @@ pub fn hall_event(
     refused_or_done(exported::hall_event(row, list, bytes, answers))
 }
 
-/// Ticks every drive of the row and sends at most `quota`, 1 to 64, of the reports that are due, which are those that ticks
+/// Ticks every drive of the row and sends at most `quota`, 1 to [`HALL_QUOTA`], of the reports that are due, which are those that ticks
 /// given to the drives alone would send.
 ///
 /// If any is due, the drive that waited longest is sent, of several the one with the lower number; which others are sent
@@ -132,7 +135,7 @@ pub enum HallRefusal {
     Call,
     /// The page has fewer than [`HALL_LINE`] bytes for each drive.
     Page,
-    /// The quota is not 1 to 64.
+    /// The quota is not 1 to [`HALL_QUOTA`].
     Quota,
 }
 
@@ -306,7 +309,7 @@ mod tests {
         assert_eq!(ticked(64, 65, 64), Err(HallRefusal::Quota));
         assert_eq!(ticked(64, 257, 64), Err(HallRefusal::Quota));
         assert_eq!(ticked(64, 1, 64), Ok(()));
-        assert_eq!(ticked(64, 64, 64), Ok(()));
+        assert_eq!(ticked(64, HALL_QUOTA, 64), Ok(()));
     }
 
     /// The calls are the single events, drive by drive.

@@ -9,7 +9,8 @@ use native.Mathlib.Numerals.{add-one}
 use lib.Dec.{eqb}
 use lib.ListN.{length, getD, set, length-set}
 use Rattle.numbers.specs.Places.{countBelow}
-use Rattle.choice.specs.Choice.{sentBy, other, kept}
+use Rattle.choice.specs.Sent.{sentBy}
+use Rattle.choice.specs.Choice.{other, kept}
 use Rattle.choice.specs.Laws.{kept-start, kept-next, kept-more, held-by-left, left-by-one}
 use Rattle.choice.proofs.choose.Statement.{statement}
 use Rattle.choice.proofs.choose.Tie as tie

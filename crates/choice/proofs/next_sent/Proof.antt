@@ -7,7 +7,7 @@ use native.Mathlib.Omega.{arith}
 use lib.Dec.{eqb}
 use borrow.Author.Tests.{le-leb, lt-leb, eqb-true, eqb-false}
 use Rattle.numbers.specs.Laws.{cases}
-use Rattle.choice.specs.Choice.{sentBy}
+use Rattle.choice.specs.Sent.{sentBy}
 use Rattle.choice.proofs.next_sent.Statement.{statement}
 use Rattle.choice.proofs.next_sent.Tie as tie
 

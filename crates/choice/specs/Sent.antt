@@ -1,0 +1,14 @@
+-- Who was sent at a hall tick, read off its numbers (document 02, W-201 and W-204).
+use mathlib.Core.Bool.{Bool}
+use mathlib.Core.List.{List}
+use Prim.Native.Nat.{ℕ}
+use lib.Dec.{leb}
+use lib.ListN.{getD}
+
+-- "65,536 + 256 × position + status for a report"
+abbrev pub isReportNumber : ℕ → Bool
+isReportNumber n = leb 65536 n
+
+-- whether the number at place `i` is one
+abbrev pub sentBy : List ℕ → ℕ → Bool
+sentBy numbers i = isReportNumber (getD numbers i 0)

@@ -1,0 +1,118 @@
+-- Waiting in a hall by computation, on three fresh drives: place 2 breaks the old sentence about waiting at two hall ticks in a row, so that
+-- fewer than three is all there is to say, and at three with a restart between them; and its wait, read off its trace, after each call.
+use mathlib.Core.Path.{_≡_, refl, ap}
+use mathlib.Core.Bool.{Bool, true, false, false≢true}
+use mathlib.Core.List.{List, [], _∷_, _++_, map}
+use Prim.Native.Nat.{ℕ}
+use lib.ListN.{take}
+use Rattle.numbers.specs.Counts as Counts
+use Rattle.event.specs.Event.{event, bytesOf}
+use Rattle.event.specs.Kinds as Kind
+use Rattle.rules.specs.Report.{Sent, silent, sent, reportDue}
+use Rattle.answer.specs.declared.Answer.the-variants.{Done, Tick}
+use Rattle.damper.specs.declared.Drive.{Drive}
+use Rattle.damper.specs.Record.{freshDrive}
+use Rattle.hall.specs.Hall.{Call, give, tickBytes, turned, hallTurned, ownOf}
+use Rattle.hall.specs.Quota.{allowedCalls}
+use Rattle.history.specs.Readings.{isRestart}
+use Rattle.history.specs.Closed.{readings}
+use Rattle.history.specs.Claim.{Moment, Trace, accepted, acceptedAs, lastReport, ticksIn, Waiting, traceOn}
+use Rattle.shares.specs.BoundWitnesses as Bound
+use Rattle.shares.specs.BoundWitnesses.{sending, giving}
+use Rattle.shares.specs.Theorem.{shareTrace}
+use Rattle.shares.specs.Waiting.{Broken, none, atTick}
+use Rattle.shares.specs.Waited.{waitOf}
+
+-- `unfolding computation` opens drive, hall and trace
+unfoldable computation : Unit {0}
+unfolding Bound.computation readings turned hallTurned ownOf accepted lastReport traceOn Counts.ticksIn Counts.since reportDue waitOf
+computation = tt
+
+abbrev three : List Drive
+three = freshDrive ∷ freshDrive ∷ freshDrive ∷ []
+
+-- a MinRepTime, as two bytes, for the drives of a list
+abbrev apart : List ℕ → ℕ → ℕ → Call
+apart list high low = give list (bytesOf (event Kind.write 117 high low)) 3
+
+-- 1 for them all
+abbrev before : List Call
+before = apart (0 ∷ 1 ∷ 2 ∷ []) 0 1 ∷ []
+
+-- two hall ticks of quota 1, which send the drives at places 0 and 1
+abbrev after : List Call
+after = sending 0 ∷ sending 1 ∷ []
+
+abbrev old : Trace
+old = shareTrace three 2 before
+
+-- place 2 at either of them: silent, and due, since it never reported
+abbrev held : Moment
+held = record { bytes = tickBytes; answer = Tick 0 0 0; position = 0 }
+
+abbrev isSent : Sent → Bool
+isSent silent = false
+isSent (sent p s) = true
+
+-- At both hall ticks MinRepTime ticks, here one, have passed without restart and without report, and there is no last report.
+pub breaks-twice : (allowedCalls three (before ++ after) ≡ true)
+    × (shareTrace three 2 (before ++ after) ≡ (held ∷ held ∷ []) ++ old)
+    × Broken old (held ∷ held ∷ [])
+    × (ticksIn (held ∷ held ∷ []) old ≡ 2)
+unfolding computation
+breaks-twice = (
+  refl,
+  refl,
+  atTick refl
+      (λ w. false≢true (ap isSent (w (held ∷ []) (held ∷ old) refl refl refl (Counts.more refl refl Counts.none) .1)))
+      (atTick refl (λ w. false≢true (ap isSent (w (held ∷ []) old refl refl refl (Counts.more refl refl Counts.none) .1))) none),
+  refl,
+)
+
+-- then a restart of place 2, hand on at place 0, which changes its status, and a third hall tick, which sends place 0 again: both have a
+-- wait of 0 by then, and the lower number goes first
+abbrev past : List Call
+past = after ++ (giving Kind.restart 0 ∷ give (0 ∷ []) (bytesOf (event Kind.hand 1 0 0)) 1 ∷ sending 0 ∷ [])
+
+-- place 2 at its restart
+abbrev again : Moment
+again = record { bytes = bytesOf (event Kind.restart 0 0 0); answer = Done; position = 0 }
+
+-- "not restarted between them" cannot be left out: with a restart accepted between the second and the third of three hall ticks, the
+-- sentence is broken at each of the three, although there are three drives.
+pub breaks-past-restart : (allowedCalls three (before ++ past) ≡ true)
+    × (shareTrace three 2 (before ++ past) ≡ (held ∷ again ∷ held ∷ held ∷ []) ++ old)
+    × (ticksIn (held ∷ again ∷ held ∷ held ∷ []) old ≡ 3)
+    × (acceptedAs isRestart again (held ∷ held ∷ old) ≡ true)
+    × (Waiting held old → ⊥)
+    × (Waiting held (held ∷ old) → ⊥)
+    × (Waiting held (again ∷ held ∷ held ∷ old) → ⊥)
+unfolding computation
+breaks-past-restart = (
+  refl,
+  refl,
+  refl,
+  refl,
+  λ w. false≢true (ap isSent (w (held ∷ []) old refl refl refl (Counts.more refl refl Counts.none) .1)),
+  λ w. false≢true (ap isSent (w (held ∷ []) (held ∷ old) refl refl refl (Counts.more refl refl Counts.none) .1)),
+  λ w. false≢true (ap isSent (w (held ∷ []) (again ∷ held ∷ held ∷ old) refl refl refl (Counts.more refl refl Counts.none) .1)),
+)
+
+-- The wait of place 2 after each of these calls: never reported and so due, it is held twice and then sent.
+abbrev calls : List Call
+calls = before ++ (after ++ (sending 2 ∷ []))
+
+pub held-twice : (allowedCalls three calls ≡ true)
+    × (map (λ k. waitOf (shareTrace three 2 (take k calls))) (1 ∷ 2 ∷ 3 ∷ 4 ∷ []) ≡ 0 ∷ 1 ∷ 2 ∷ 0 ∷ [])
+unfolding computation
+held-twice = (refl, refl)
+
+-- Held once and restarted, it begins anew; held once more, it gets a MinRepTime of 3600, so that it is not due at the next hall tick, which
+-- sends none of the three.
+abbrev anew : List Call
+anew = before ++ (sending 0 ∷ giving Kind.restart 0 ∷ sending 1 ∷ apart (2 ∷ []) 14 16 ∷ sending 3 ∷ [])
+
+pub held-anew : (allowedCalls three anew ≡ true)
+    × (map (λ k. waitOf (shareTrace three 2 (take k anew))) (1 ∷ 2 ∷ 3 ∷ 4 ∷ 5 ∷ 6 ∷ []) ≡ 0 ∷ 1 ∷ 0 ∷ 1 ∷ 1 ∷ 0 ∷ [])
+unfolding computation
+held-anew = (refl, refl)
