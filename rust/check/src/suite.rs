@@ -49,7 +49,7 @@ pub fn run<S: Subject + Hall + ?Sized>(subject: &S, events: u64, steps: u64, see
     passed &= covered("met", cover.counts());
     passed &= covered("met in halls", hall_cover.counts());
     let hall_ticks = events * seeds.len() as u64 / EVENTS_A_HALL_TICK;
-    if hall_cover.ticked < hall_ticks {
+    if hall_cover.hall_ticks() < hall_ticks {
         println!("fewer than {hall_ticks} hall ticks");
         passed = false;
     }

@@ -66,13 +66,7 @@ extern "C" {
 
 // libhall_tick.a
 extern "C" {
-    fn damper_hall_tick(
-        row: *mut Drive,
-        drives: usize,
-        quota: u32,
-        numbers: *mut u32,
-        places: usize,
-    ) -> u8;
+    fn damper_hall_tick(row: *mut Drive, drives: usize, quota: u32, numbers: *mut u32, places: usize) -> u8;
 }
 
 // libhall_page.a

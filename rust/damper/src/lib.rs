@@ -44,6 +44,8 @@ mod refusal;
 pub use answer::{Answer, Motor, Rank, Status};
 pub use drive::{Commands, Drive, Last, Run};
 pub use event::{read, write, Command, Event};
-pub use hall::{hall_event, hall_page, hall_tick, HallAnswer, HallRefusal, HallTick, HALL_LINE, HALL_MOST, HALL_QUOTA};
+pub use hall::{
+    hall_event, hall_page, hall_tick, HallAnswer, HallRefusal, HallTick, HALL_LINE, HALL_MOST, HALL_QUOTA,
+};
 pub use parameter::Parameter;
 pub use refusal::Refusal;

@@ -18,6 +18,11 @@ macro_rules! counters {
         }
 
         impl HallCover {
+            /// Hall ticks that were not refused.
+            pub fn hall_ticks(&self) -> u64 {
+                self.ticked
+            }
+
             /// Every count with its name.
             pub fn counts(&self) -> Vec<(String, u64)> {
                 let answers = (0..14).map(|n| (format!("answer {n}"), self.answers[n]));
