@@ -487,7 +487,7 @@ static void hall_events(damper_drive fresh)
 {
     damper_drive damaged = fresh, forced = after(fresh, DAMPER_KIND_FORCING, DAMPER_FORCING_TO_0, 0, 0);
     damaged.commands.hand = 2;
-    const uint32_t two[2] = {2, 0}, all[4] = {3, 2, 1, 0}, twice[3] = {1, 0, 1};
+    const uint32_t two[2] = {2, 0}, all[4] = {3, 2, 1, 0};
     const uint8_t calibration[SIX] = {DAMPER_MARK_0, DAMPER_MARK_1, DAMPER_KIND_CALIBRATION, 0, 0, 0};
     const uint8_t read_position[SIX] = {DAMPER_MARK_0, DAMPER_MARK_1, DAMPER_KIND_READ_POSITION, 0, 0, 0};
     const uint8_t read_rate[SIX] = {DAMPER_MARK_0, DAMPER_MARK_1, DAMPER_KIND_READ_PARAMETER, DAMPER_NUMBER_RATE, 0, 0};
@@ -507,16 +507,6 @@ static void hall_events(damper_drive fresh)
     CHECK(now.answers[2] == DAMPER_REFUSAL_CALIBRATION && now.answers[3] == 0 && rest_kept(4, 0));
     CHECK(now.row[0].run.left == 51 && same(now.row[1], forced) && same(now.row[2], damaged) && now.row[3].run.left == 51);
     CHECK(kept(4, DAMPER_HALL_MOST + 1));
-
-    /* A drive that is named twice gets two answers. */
-    fill_hall(fresh);
-    CHECK(give_hall(3, twice, 3, calibration, SIX, 3) == 0);
-    damper_drive once = after(fresh, DAMPER_KIND_CALIBRATION, 0, 0, 0);
-    CHECK(same(now.row[0], once) && same(now.row[1], after(once, DAMPER_KIND_CALIBRATION, 0, 0, 0)) && kept(2, 3));
-    CHECK(now.answers[0] == 0 && now.answers[1] == 0 && now.answers[2] == 0 && rest_kept(3, 0));
-    now.row[1] = damaged;
-    CHECK(give_hall(3, twice, 3, a_setpoint, SIX, 3) == 0);
-    CHECK(now.answers[0] == DAMPER_REFUSAL_RECORD && now.answers[1] == 0 && now.answers[2] == DAMPER_REFUSAL_RECORD);
 
     /* A read hands nothing back. */
     fill_hall(with_setpoint(fresh, 128));
@@ -554,16 +544,16 @@ static void hall_events(damper_drive fresh)
     }
 }
 
-/* Rows of 1 and 64, lists of 1 and 64, and the refusals 14 to 16 and 18: what fits each, and which comes first. */
+/* Rows of 1 and 64, lists of 1 and 64, and the refusals 14 to 16, 18 and 19: what fits each, and which comes first. */
 static void hall_refusals(damper_drive fresh)
 {
     const size_t most = DAMPER_HALL_MOST;
     const unsigned no_hall = DAMPER_HALL_REFUSAL_ROW, no_drive = DAMPER_HALL_REFUSAL_NUMBER;
-    const unsigned no_call = DAMPER_HALL_REFUSAL_CALL;
+    const unsigned no_call = DAMPER_HALL_REFUSAL_CALL, named_twice = DAMPER_HALL_REFUSAL_TWICE;
     uint32_t list[DAMPER_HALL_MOST + 6];
     for (uint32_t k = 0; k < DAMPER_HALL_MOST + 6; k++)
         list[k] = k % DAMPER_HALL_MOST;
-    CHECK(most == 64 && no_hall == 14 && no_drive == 15 && no_call == 16);
+    CHECK(most == 64 && no_hall == 14 && no_drive == 15 && no_call == 16 && named_twice == 19);
 
     fill_hall(fresh);
     CHECK(give_hall(1, list, 1, a_setpoint, SIX, 1) == 0 && now.row[0].commands.setpoint == 128 && kept(1, most + 1));
@@ -618,6 +608,32 @@ static void hall_refusals(damper_drive fresh)
     now.row[0].commands.hand = 2;
     CHECK(give_hall(1, list, 1, a_tick, SIX, 1) == no_call && untouched());
     CHECK(give_hall(1, list, 1, a_setpoint, 0, 0) == no_call && untouched());
+
+    /* 19: one number at any two places of the list, also of bytes that no drive takes; none where the two differ. */
+    fill_hall(fresh);
+    for (size_t k = 1; k < most; k++)
+        for (size_t j = 0; j < k; j++) {
+            uint32_t number = list[k];
+            list[k] = list[j];
+            CHECK(give_hall(most, list, most, a_setpoint, SIX, most) == named_twice && untouched());
+            CHECK(give_hall(most, list, k + 1, a_setpoint, 0, k + 1) == named_twice && untouched());
+            CHECK(give_hall(most, list, k + 1, a_tick, SIX, k + 1) == no_call && untouched());
+            CHECK(give_hall(most, list, k + 1, a_setpoint, SIX, k) == no_call && untouched());
+            CHECK(give_hall(most, list, most + 1, a_setpoint, SIX, most + 6) == no_call && untouched());
+            list[most - 1] = DAMPER_HALL_MOST;
+            CHECK(give_hall(most, list, most, a_setpoint, SIX, most) == no_drive && untouched());
+            list[most - 1] = DAMPER_HALL_MOST - 1;
+            list[k] = number;
+            CHECK(give_hall(most, list, k + 1, a_setpoint, 0, k + 1) == 0);
+        }
+    const uint32_t three[3] = {5, 0, 63};
+    uint32_t many[DAMPER_HALL_MOST];
+    for (size_t k = 0; k < most; k++)
+        many[k] = three[k % 3];
+    fill_hall(fresh);
+    CHECK(give_hall(most, many, most, a_setpoint, SIX, most) == named_twice && untouched());
+    CHECK(give_hall(most, many, 4, a_setpoint, SIX, 4) == named_twice && untouched());
+    CHECK(give_hall(most, many, 3, a_setpoint, SIX, 3) == 0);
 
     fill_hall(fresh);
     CHECK(tick_hall(0, 1, 6) == no_hall && untouched() && tick_hall(0, 0, 0) == no_hall && untouched());

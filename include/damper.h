@@ -206,7 +206,8 @@ enum damper_hall_refusal {
     DAMPER_HALL_REFUSAL_NUMBER = 15, /* a number of the list is not below the row's length */
     DAMPER_HALL_REFUSAL_CALL = 16,   /* an accepted tick, a list over DAMPER_HALL_MOST, or too few places for the answers */
     DAMPER_HALL_REFUSAL_PAGE = 17,   /* the page has fewer than DAMPER_HALL_LINE bytes for each drive */
-    DAMPER_HALL_REFUSAL_QUOTA = 18   /* the quota is not 1 to DAMPER_HALL_QUOTA */
+    DAMPER_HALL_REFUSAL_QUOTA = 18,  /* the quota is not 1 to DAMPER_HALL_QUOTA */
+    DAMPER_HALL_REFUSAL_TWICE = 19   /* the list names a drive twice */
 };
 
 /* What damper_hall_tick says of a drive: one of the first two, or the third + 256 * position + status. */
@@ -344,15 +345,16 @@ damper_replayed damper_replay(damper_drive drive, const uint8_t *bytes, size_t l
 /*
  * Gives one event record, of any kind but a tick, to the drives that the list names, in its order, and gives 0. A drive's
  * number is its place in the row, from 0 on. What damper_step would make of the drive numbered list[k] then stands in its
- * place, and answers[k] is 0 or the refusal, 1 to 13. A read answers 0 as well; its values are not handed back. A drive that
- * is named twice is given the event twice, the second time as the first left it. Drives that are not named stay as they are,
- * and so do the places of the answers from `entries` on.
+ * place, and answers[k] is 0 or the refusal, 1 to 13. A read answers 0 as well; its values are not handed back. Drives that are
+ * not named stay as they are, and so do the places of the answers from `entries` on. The order of the list decides where the
+ * answers stand, and nothing else.
  *
- * The first of the refusals 14 to 16 that fits turns the call down, and then both rows stay as they are:
+ * The first of these refusals that fits turns the call down, and then both rows stay as they are:
  *
  *     14  drives is 0 or over 64
  *     15  a number of the list, those beyond the 64th among them, is not below drives
  *     16  the bytes are a tick that damper_read accepts, entries is over 64, or places is below entries
+ *     19  the list names a drive twice: one number stands at two places of it
  *
  * Any other bytes go to each drive and, where they are no event, are refused there, a damaged tick among them. With an empty
  * list nothing is given, and the call still gives 0, 14 or 16.

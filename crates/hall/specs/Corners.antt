@@ -2,14 +2,15 @@
 use mathlib.Core.Path.{_≡_, refl}
 use mathlib.Core.Bool.{false}
 use mathlib.Core.List.{List, [], _∷_, _++_, map}
-use Prim.Native.Nat.{ℕ}
+use Prim.Native.Nat.{ℕ, _%_}
 use lib.ListN.{replicate}
+use Rattle.numbers.specs.Places.{placesFrom, tabulate}
 use Rattle.event.specs.Event.{event, bytesOf, readOf}
 use Rattle.answer.specs.Answer.{numberOf}
 use Rattle.damper.specs.Record.{freshDrive}
 use Rattle.damper.specs.Step.{stepOf}
 use Rattle.damper.specs.Closed.{computation}
-use Rattle.hall.specs.Hall.{Call, give, tick, tickBytes, badNumber, callRefusal, turnsOf}
+use Rattle.hall.specs.Hall.{Call, give, tick, tickBytes, badNumber, namedIn, namesTwice, callRefusal, turnsOf}
 
 -- how many drives, the call, and what refuses it
 pub record Corner : Type 0 where
@@ -47,13 +48,15 @@ table =
     ∷ corner 8 (give (7 ∷ []) setpoint 1) 0
     ∷ corner 8 (give (8 ∷ []) setpoint 1) 15
     ∷ corner 8 (give (263 ∷ []) setpoint 1) 15
-    -- a bad number in the last place, beyond the 64th entry, beside an accepted tick, without room for the answers
+    -- a bad number in the last place, beyond the 64th entry, beside an accepted tick, without room for the answers, beside a repeat
     ∷ corner 2 (give (0 ∷ 1 ∷ 2 ∷ []) setpoint 3) 15
     ∷ corner 1 (give (replicate 64 0 ++ (1 ∷ [])) setpoint 65) 15
     ∷ corner 1 (give (1 ∷ []) tickBytes 1) 15
     ∷ corner 1 (give (1 ∷ []) setpoint 0) 15
-    -- 64 entries and 65
-    ∷ corner 1 (give (replicate 64 0) setpoint 64) 0
+    ∷ corner 2 (give (1 ∷ 1 ∷ 2 ∷ []) setpoint 3) 15
+    -- 64 entries and 65, which cannot do without a repeat
+    ∷ corner 64 (give (placesFrom 0 64) setpoint 64) 0
+    ∷ corner 64 (give (placesFrom 0 64 ++ (0 ∷ [])) setpoint 65) 16
     ∷ corner 1 (give (replicate 65 0) setpoint 65) 16
     -- an accepted tick, also with an empty list; a damaged one is for the drives to refuse
     ∷ corner 1 (give (0 ∷ []) tickBytes 1) 16
@@ -66,6 +69,22 @@ table =
     ∷ corner 2 (give (1 ∷ 0 ∷ []) setpoint 1) 16
     ∷ corner 2 (give (1 ∷ 0 ∷ []) setpoint 2) 0
     ∷ corner 2 (give (1 ∷ 0 ∷ []) setpoint 3) 0
+    -- a drive named twice: by neighbours, only by the first and the last entry, only behind the first, only before the last; 64 entries
+    -- on three drives
+    ∷ corner 8 (give (7 ∷ 7 ∷ []) setpoint 2) 19
+    ∷ corner 8 (give (7 ∷ 3 ∷ 5 ∷ 7 ∷ []) setpoint 4) 19
+    ∷ corner 8 (give (3 ∷ 7 ∷ 5 ∷ 7 ∷ []) setpoint 4) 19
+    ∷ corner 8 (give (7 ∷ 5 ∷ 7 ∷ 3 ∷ []) setpoint 4) 19
+    ∷ corner 8 (give (7 ∷ 3 ∷ 5 ∷ []) setpoint 3) 0
+    ∷ corner 3 (give (tabulate 64 (λ k. k % 3)) setpoint 64) 19
+    -- 32 drives apart; whatever the bytes, where they are no accepted tick
+    ∷ corner 64 (give (1 ∷ 33 ∷ 63 ∷ 31 ∷ []) setpoint 4) 0
+    ∷ corner 1 (give (0 ∷ 0 ∷ []) damaged 2) 19
+    ∷ corner 1 (give (0 ∷ 0 ∷ []) [] 2) 19
+    -- 14 and 16 before 19
+    ∷ corner 65 (give (0 ∷ 0 ∷ []) setpoint 2) 14
+    ∷ corner 1 (give (0 ∷ 0 ∷ []) tickBytes 2) 16
+    ∷ corner 1 (give (0 ∷ 0 ∷ []) setpoint 1) 16
     ∷ corner 2 (ticks 8 1) 16
     ∷ corner 2 (ticks 8 2) 0
     ∷ corner 2 (ticks 8 3) 0
@@ -80,7 +99,7 @@ table =
     ∷ []
 
 pub corners : map (λ (c : Corner). callRefusal (c .drives) (c .call)) table ≡ map (λ (c : Corner). c .number) table
-unfolding computation readOf badNumber callRefusal
+unfolding computation readOf badNumber namedIn namesTwice callRefusal
 corners = refl
 
 -- the damaged tick is refused by the drive, by 5
@@ -90,5 +109,5 @@ damaged-refused = refl
 
 -- the empty list has no turns
 pub none-given : turnsOf 1 (give [] setpoint 0) ≡ []
-unfolding computation readOf badNumber callRefusal turnsOf
+unfolding computation readOf badNumber namesTwice callRefusal turnsOf
 none-given = refl

@@ -1,5 +1,5 @@
--- Document 02, W-201: 1 to 64 drive records in one row, the calls on them, and each drive's share of these. What a hall tick does to a
--- drive, and who is sent, is W-204, in Quota.antt.
+-- Document 02, W-201: 1 to 64 drive records in one row, the calls on them, and each drive's share of these; W-205: a list that names a
+-- drive twice is refused. What a hall tick does to a drive, and who is sent, is W-204, in Quota.antt.
 use mathlib.Core.Bool.{Bool, false, _||_}
 use mathlib.Core.List.{List, [], _∷_, _++_, map}
 use Prim.Native.Nat.{ℕ, _+_, _*_}
@@ -45,6 +45,15 @@ isTick s = readAsTick (readOf s)
 abbrev pub badEvent : List ℕ → List ℕ → ℕ → Bool
 badEvent list s room = (isTick s || ltb 64 (length list)) || ltb room (length list)
 
+-- W-205, 19: "when a list names a drive twice": one number stands at two places of it, here at the first and again, or behind the first
+unfoldable pub namedIn : ℕ → List ℕ → Bool
+namedIn i [] = false
+namedIn i (j ∷ list) = eqb i j || namedIn i list
+
+unfoldable pub namesTwice : List ℕ → Bool
+namesTwice [] = false
+namesTwice (i ∷ list) = namedIn i list || namesTwice list
+
 -- W-204, 18: "when the quota is outside 1 to 64"
 abbrev pub badQuota : ℕ → Bool
 badQuota quota = ltb quota 1 || ltb 64 quota
@@ -53,9 +62,13 @@ badQuota quota = ltb quota 1 || ltb 64 quota
 abbrev pub tickRefusal : ℕ → ℕ → ℕ → ℕ
 tickRefusal n quota room = pick (badRow n) 14 (pick (ltb room n) 16 (pick (badQuota quota) 18 0))
 
--- "14 to 16 come before 1 to 13, in this order": the first that fits a call on `n` drives, 0 if none does
+-- of the event call: "14 to 16 come before 1 to 13, in this order", and behind them what a later request adds
+abbrev pub eventRefusal : ℕ → List ℕ → List ℕ → ℕ → ℕ → ℕ
+eventRefusal n list s room more = pick (badRow n) 14 (pick (badNumber n list) 15 (pick (badEvent list s room) 16 more))
+
+-- the first number that fits a call on `n` drives, 0 if none does; 19 is "checked after 16"
 unfoldable pub callRefusal : ℕ → Call → ℕ
-callRefusal n (give list s room) = pick (badRow n) 14 (pick (badNumber n list) 15 (pick (badEvent list s room) 16 0))
+callRefusal n (give list s room) = eventRefusal n list s room (pick (namesTwice list) 19 0)
 callRefusal n (tick quota sends room) = tickRefusal n quota room
 
 -- what a drive is given: an event record, or a hall tick, which sends its report or not
@@ -103,7 +116,7 @@ taken step row t = step (at row (t .place)) (t .given)
 abbrev pub rowWith : StepOn Given → List Drive → Turn → List Drive
 rowWith step row t = set row (t .place) (taken step row t .drive)
 
--- what turns give, one after the other: of a drive named twice "the event is given twice", the second time as the first left it
+-- what turns give, one after the other, each on the row that the one before left
 unfoldable pub turned : StepOn Given → List Drive → List Turn → List Outcome
 turned step row [] = []
 turned step row (t ∷ ts) = taken step row t ∷ turned step (rowWith step row t) ts

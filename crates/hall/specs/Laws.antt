@@ -9,7 +9,7 @@ use native.Mathlib.Numerals.{add-one}
 use lib.Dec.{ltb, leb, eqb}
 use lib.ListN.{length, getD, set, take, drop, length-set, length-map, length-append, length-take, length-drop, drop-of-length-le, List·getD-map}
 use lib.Seq.{drop-cons, take-suc, take-length, length-take-le}
-use borrow.Author.Tests.{lt-leb, le-leb, leb-false, ltb-false, eqb-true}
+use borrow.Author.Tests.{lt-leb, le-leb, leb-false, ltb-false, eqb-true, eq-eqb, ne-eqb}
 use Rattle.numbers.specs.Numbers.{pick}
 use Rattle.numbers.specs.Laws.{or-left, or-right, passed, cases}
 use Rattle.answer.specs.declared.Answer.{Answer}
@@ -17,7 +17,7 @@ use Rattle.damper.specs.declared.Drive.{Drive}
 use Rattle.damper.specs.declared.Outcome.{Outcome}
 use Rattle.damper.specs.Carry.{StepOn, answersIn}
 use Rattle.damper.specs.CarryLaws.{answers-more}
-use Rattle.hall.specs.Hall.{Call, give, badRow, badNumber, isTick, badEvent, badQuota, tickRefusal, callRefusal, Given, bytes, Turn, turn, turnsOf, at, rowWith, turned, rowAfter, answerNumber, answersAfter}
+use Rattle.hall.specs.Hall.{Call, give, badRow, badNumber, isTick, badEvent, badQuota, tickRefusal, eventRefusal, callRefusal, Given, bytes, Turn, turn, turnsOf, at, rowWith, turned, rowAfter, answerNumber, answersAfter}
 
 -- the numbers of a list from `k` on: the one at `k`, and those behind it
 pub bad-here : (n k : ℕ) (list : List ℕ) → k < length list → n ≤ getD list k 0 → badNumber n (drop k list) ≡ true
@@ -34,11 +34,52 @@ unfolding badNumber
 good-end n k list h = rw (drop-of-length-le list h)
 
 -- each number of a list that has no badNumber one is that of a drive
-good-at : (n : ℕ) (list : List ℕ) → badNumber n list ≡ false → (k : ℕ) → k < length list → getD list k 0 < n
+pub good-at : (n : ℕ) (list : List ℕ) → badNumber n list ≡ false → (k : ℕ) → k < length list → getD list k 0 < n
 unfolding badNumber
 good-at n [] e k h = absurd (not-suc-le-zero h)
 good-at n (i ∷ list) e zero h = leb-false n i (or-left (leb n i) _ e)
 good-at n (i ∷ list) e (suc k) h = good-at n list (or-right (leb n i) _ e) k (le-of-suc-le-suc h)
+
+pub row-few : (n : ℕ) → badRow n ≡ false → n ≤ 64
+row-few n e = ltb-false 64 n (or-right (ltb n 1) _ e)
+
+-- and then each is one of a longer row
+bad-longer : (n m : ℕ) (list : List ℕ) → n ≤ m → badNumber n list ≡ false → badNumber m list ≡ false
+unfolding badNumber
+bad-longer n m [] h e = refl
+bad-longer n m (i ∷ list) h e =
+    let here = leb-false n i (or-left (leb n i) _ e) in
+    rw (lt-leb m i (omega arith)) (bad-longer n m list h (or-right (leb n i) _ e))
+
+-- What stands behind 14 to 16 is asked where none of them fits, and nowhere else.
+
+first-of : (row number event : Bool) (more : ℕ)
+    → (let first : ℕ = pick row 14 (pick number 15 (pick event 16 0)) in
+      pick row 14 (pick number 15 (pick event 16 more)) ≡ pick (eqb first 0) more first)
+first-of true number event more = refl
+first-of false true event more = refl
+first-of false false true more = refl
+first-of false false false more = refl
+
+module _ (n : ℕ) (list s : List ℕ) (room : ℕ) where
+  abbrev first : ℕ
+  first = eventRefusal n list s room 0
+
+  after-16 : (more : ℕ) → eventRefusal n list s room more ≡ pick (eqb first 0) more first
+  after-16 = first-of (badRow n) (badNumber n list) (badEvent list s room)
+
+  pub asked-after : (more : ℕ) → first ≡ 0 → eventRefusal n list s room more ≡ more
+  asked-after more e = after-16 more ∙ rw (eq-eqb first 0 e)
+
+  pub refused-before : (more : ℕ) → (first ≡ 0 → ⊥) → eventRefusal n list s room more ≡ first
+  refused-before more e = after-16 more ∙ rw (ne-eqb first 0 e)
+
+  -- where it is asked, each number of the list is below 64
+  pub few-numbers : first ≡ 0 → badNumber 64 list ≡ false
+  few-numbers e =
+      let r = passed (badRow n) 14 _ e (omega arith) in
+      let u = passed (badNumber n list) 15 _ (r .1) (omega arith) in
+      bad-longer n 64 list (row-few n (r .0)) (u .0)
 
 -- An accepted call has room.
 
@@ -53,9 +94,6 @@ given-fits n list s room e =
     let m = passed (badEvent list s room) 16 _ (u .1) (omega arith) .0 in
     let most = or-right (isTick s) _ (or-left (isTick s || ltb 64 (length list)) _ m) in
     (good-at n list (u .0), ltb-false 64 _ most, ltb-false room _ (or-right (isTick s || ltb 64 (length list)) _ m))
-
-pub row-few : (n : ℕ) → badRow n ≡ false → n ≤ 64
-row-few n e = ltb-false 64 n (or-right (ltb n 1) _ e)
 
 -- a hall tick that is carried out: 1 to 64 drives, room for their numbers, and a quota of 1 to 64
 pub ticked-fits : (n quota room : ℕ) → tickRefusal n quota room ≡ 0 → (n ≤ 64) × (n ≤ room) × (1 ≤ quota)

@@ -2,6 +2,7 @@
 pub mod Hall
 pub mod Quota
 pub mod Laws
+pub mod ListLaws
 pub mod TickLaws
 pub mod NumberLaws
 pub mod Corners

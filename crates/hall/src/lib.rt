@@ -1,12 +1,13 @@
 // When a hall call is refused itself, and how many turns it has.
 ghost use mathlib.Core.Path.{_≡_};
+ghost use mathlib.Core.Bool.{false};
 ghost use Prim.Native.Nat.{_<_};
 ghost use lib.Dec.{eqb};
 ghost use lib.ListN.{length, getD};
 ghost use Rattle.numbers.specs.Numbers.{pick};
-ghost use Rattle.hall.specs.Hall.{give, badRow, badNumber, isTick, tickRefusal, callRefusal};
+ghost use Rattle.hall.specs.Hall.{give, badRow, badNumber, isTick, namesTwice, tickRefusal, eventRefusal, callRefusal};
 use event::Decoded;
-use numbers::pick8;
+use numbers::{flag, pick8, with_flag};
 
 // The most drives of a row, and entries of a list.
 const MOST: usize = 64;
@@ -52,6 +53,24 @@ fn is_tick(s: &[u8]) -> bool
     }
 }
 
+// Whether the list names a drive twice, in one pass: flag i says that number i has been met.
+fn names_twice(list: &[u32]) -> bool
+    requires { ⌜ badNumber 64 (now list) ≡ false ⌝ }
+    ensures { λ r. ⌜ r ≡ namesTwice (now (list .entry)) ⌝ }
+{
+    let mut met: u64 = 0;
+    let mut k: usize = 0;
+    while k < list.len() {
+        let number = entry(list, k);
+        if flag(met, number) {
+            return true;
+        }
+        met = with_flag(met, number);
+        k += 1;
+    }
+    false
+}
+
 // Whether a row of drives is empty or too long.
 pub fn bad_row(drives: usize) -> bool
     ensures { λ r. ⌜ r ≡ badRow drives ⌝ }
@@ -60,13 +79,25 @@ pub fn bad_row(drives: usize) -> bool
 }
 
 // The first of 14 to 16 that fits an event call, or 0.
-pub fn event_refusal(drives: usize, list: &[u32], s: &[u8], places: usize) -> u8
-    ensures { λ r. ⌜ r ≡ callRefusal drives (give (now (list .entry)) (now (s .entry)) places) ⌝ }
+fn first_refusal(drives: usize, list: &[u32], s: &[u8], places: usize) -> u8
+    ensures { λ r. ⌜ r ≡ eventRefusal drives (now (list .entry)) (now (s .entry)) places 0 ⌝ }
 {
     let row = bad_row(drives);
     let number = bad_number(drives, list);
     let given = is_tick(s) | (MOST < list.len()) | (places < list.len());
     pick8(row, 14, pick8(number, 15, pick8(given, 16, 0)))
+}
+
+// The first of 14, 15, 16 and 19 that fits an event call, or 0.
+pub fn event_refusal(drives: usize, list: &[u32], s: &[u8], places: usize) -> u8
+    ensures { λ r. ⌜ r ≡ callRefusal drives (give (now (list .entry)) (now (s .entry)) places) ⌝ }
+{
+    let first = first_refusal(drives, list, s, places);
+    if first == 0 {
+        pick8(names_twice(list), 19, 0)
+    } else {
+        first
+    }
 }
 
 // The first of 14, 16 and 18 that fits a hall tick, or 0.

@@ -1,6 +1,7 @@
 -- Small functions on numbers and flags, tests of the places of a row, counts along a list, and their laws.
 pub mod Numbers
 pub mod Laws
+pub mod FlagLaws
 pub mod Places
 pub mod PlaceLaws
 pub mod Counts

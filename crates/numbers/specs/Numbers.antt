@@ -1,6 +1,6 @@
 -- The small words that the definitions of document 01's drive are written in.
 use mathlib.Core.Bool.{Bool, true, false}
-use Prim.Native.Nat.{ℕ, _+_, _-_, min}
+use Prim.Native.Nat.{ℕ, _+_, _-_, _/_, _%_, _^_, min}
 use lib.Dec.{leb, eqb}
 
 -- `a` where the flag is set, else `b`
@@ -18,6 +18,10 @@ isFlag f = leb f 1
 -- the weight `w` where the flag is set, else 0
 abbrev pub bit : Bool → ℕ → ℕ
 bit c w = pick c w 0
+
+-- flags held in one number: the flag `i` is its binary digit `i`, the lowest being 0
+abbrev pub flagAt : ℕ → ℕ → Bool
+flagAt flags i = on (flags / 2 ^ i % 2)
 
 -- how far `a` and `b` are apart
 abbrev pub distance : ℕ → ℕ → ℕ

@@ -1,7 +1,9 @@
 // Small functions on numbers and flags.
 ghost use mathlib.Core.Path.{_≡_};
-ghost use Prim.Native.Nat.{_≤_, min, max};
-ghost use Rattle.numbers.specs.Numbers.{pick, bit, distance, next};
+ghost use mathlib.Core.Bool.{_||_};
+ghost use Prim.Native.Nat.{ℕ, _<_, _≤_, min, max};
+ghost use lib.Dec.{eqb};
+ghost use Rattle.numbers.specs.Numbers.{pick, bit, flagAt, distance, next};
 
 pub fn pick8(c: bool, a: u8, b: u8) -> u8
     ensures { λ r. ⌜ r ≡ pick c a b ⌝ }
@@ -27,6 +29,22 @@ pub fn bit(c: bool, w: u8) -> u8
     ensures bound { λ r. ⌜ r ≤ w ⌝ }
 {
     if c { w } else { 0 }
+}
+
+// Whether flag `i` is set.
+pub fn flag(flags: u64, i: usize) -> bool
+    requires { ⌜ i < 64 ⌝ }
+    ensures { λ r. ⌜ r ≡ flagAt flags i ⌝ }
+{
+    (flags >> i) & 1 == 1
+}
+
+// The flags with flag `i` set too.
+pub fn with_flag(flags: u64, i: usize) -> u64
+    requires { ⌜ i < 64 ⌝ }
+    ensures { λ r. ⌜ ((j : ℕ) → flagAt r j ≡ (eqb j i || flagAt flags j)) ⌝ }
+{
+    flags | (1 << i)
 }
 
 pub fn min8(a: u8, b: u8) -> u8

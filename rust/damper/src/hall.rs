@@ -1,5 +1,5 @@
 //! A hall: 1 to 64 drives in one row, worked on where they stand. Document 02, W-201; the shift page is its W-203, the quota its
-//! W-204.
+//! W-204, and that no list names a drive twice its W-205.
 
 use crate::{exported, Drive, Refusal, Status};
 use core::error::Error;
@@ -16,10 +16,10 @@ pub const HALL_LINE: usize = 29;
 
 /// Gives an event other than a tick to the listed drives, in the list's order: any bytes, however many.
 ///
-/// Drives are numbered from 0, by their place in the row. One that is listed twice is given the event twice;
-/// one that is not listed keeps every field. The answer to entry i is the number `answers[i]`, which
-/// [`HallAnswer::from_number`] reads; further places keep their content. Reads hand no value back. A call
-/// that is refused itself touches nothing.
+/// Drives are numbered from 0, by their place in the row. One that is not listed keeps every field. The
+/// answer to entry i is the number `answers[i]`, which [`HallAnswer::from_number`] reads; further places keep
+/// their content. Reads hand no value back. A call that is refused itself, a list that names a drive twice
+/// among them, touches nothing.
 ///
 /// ```
 /// use damper::{hall_event, Drive, Event, HallAnswer, HallRefusal, Refusal};
@@ -35,6 +35,7 @@ pub const HALL_LINE: usize = 29;
 /// assert_eq!((row[2].commands.setpoint, row[0]), (128, Drive::fresh()));
 ///
 /// assert_eq!(hall_event(&mut row, &[2, 3], &setpoint, &mut answers), Err(HallRefusal::Number));
+/// assert_eq!(hall_event(&mut row, &[2, 0, 2], &setpoint, &mut answers), Err(HallRefusal::Twice));
 /// ```
 #[inline]
 pub fn hall_event(
@@ -137,14 +138,22 @@ pub enum HallRefusal {
     Page,
     /// The quota is not 1 to [`HALL_QUOTA`].
     Quota,
+    /// The list names a drive twice.
+    Twice,
 }
 
 impl HallRefusal {
-    /// 14 to 18.
-    pub const ALL: [HallRefusal; 5] =
-        [HallRefusal::Row, HallRefusal::Number, HallRefusal::Call, HallRefusal::Page, HallRefusal::Quota];
+    /// 14 to 19.
+    pub const ALL: [HallRefusal; 6] = [
+        HallRefusal::Row,
+        HallRefusal::Number,
+        HallRefusal::Call,
+        HallRefusal::Page,
+        HallRefusal::Quota,
+        HallRefusal::Twice,
+    ];
 
-    /// Document 02's number, 14 to 18.
+    /// Document 02's number, 14 to 19.
     pub const fn number(self) -> u8 {
         self as u8
     }
@@ -163,6 +172,7 @@ impl fmt::Display for HallRefusal {
             HallRefusal::Call => "a tick by list, over 64 entries, or too few places for the answers",
             HallRefusal::Page => "the page has fewer than 29 bytes for each drive",
             HallRefusal::Quota => "the quota is not 1 to 64",
+            HallRefusal::Twice => "the list names a drive twice",
         })
     }
 }
@@ -245,7 +255,7 @@ mod tests {
         }
         for number in 0..=255 {
             let refusal = HallRefusal::numbered(number);
-            assert_eq!(refusal.is_some(), (14..=18).contains(&number));
+            assert_eq!(refusal.is_some(), (14..=19).contains(&number));
             assert!(refusal.is_none_or(|refusal| refusal.number() == number));
         }
     }
@@ -290,9 +300,14 @@ mod tests {
         assert_eq!(event(64, &[64], &tick, 0), Err(HallRefusal::Number));
         assert_eq!(event(8, &[263], &calibration, 1), Err(HallRefusal::Number));
         assert_eq!(event(8, &[], &tick, 0), Err(HallRefusal::Call));
-        assert_eq!(event(8, &[0; 64], &calibration, 64), Ok(()));
+        assert_eq!(event(64, &core::array::from_fn::<_, 64, _>(|k| k as u32), &calibration, 64), Ok(()));
         assert_eq!(event(8, &[0; 65], &calibration, 65), Err(HallRefusal::Call));
         assert_eq!(event(8, &[0; 2], &calibration, 1), Err(HallRefusal::Call));
+        assert_eq!(event(8, &[0; 64], &calibration, 64), Err(HallRefusal::Twice));
+        assert_eq!(event(8, &[7, 3, 5, 7], &calibration, 4), Err(HallRefusal::Twice));
+        assert_eq!(event(8, &[7, 7], &tick, 2), Err(HallRefusal::Call));
+        assert_eq!(event(8, &[7, 7, 8], &calibration, 3), Err(HallRefusal::Number));
+        assert_eq!(event(8, &[7, 3, 5], &calibration, 3), Ok(()));
 
         let ticked = |drives: usize, quota: u32, places: usize| {
             let (mut row, mut numbers) = ([Drive::fresh(); 65], [0xEEEE_EEEE; 65]);
@@ -325,8 +340,8 @@ mod tests {
             Event::WriteParameter(Parameter::Rate, 7),
         ];
         for event in events {
-            let list = [3, 0, 2, 0];
-            let mut answers = [0xEE; 5];
+            let list = [3, 0, 2];
+            let mut answers = [0xEE; 4];
             assert_eq!(hall_event(&mut row, &list, &event.unchecked(), &mut answers), Ok(()));
             for (number, answer) in list.into_iter().zip(answers) {
                 let expected = match alone[number as usize].give(event) {
@@ -335,7 +350,7 @@ mod tests {
                 };
                 assert_eq!(HallAnswer::from_number(answer), Some(expected));
             }
-            assert_eq!((row, answers[4]), (alone, 0xEE));
+            assert_eq!((row, answers[3]), (alone, 0xEE));
 
             // One at a time, so that each report that is due goes.
             for (drive, alone) in row.iter_mut().zip(&mut alone) {
