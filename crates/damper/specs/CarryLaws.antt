@@ -28,7 +28,7 @@ outcomes-append step d [] m = refl
 outcomes-append step d (s ∷ l) m = rw (outcomes-append step (step d s .drive) l m)
 
 -- the drive that the last of the outcomes left
-drive-last : (d : Drive) (os : List Outcome) (o : Outcome) → driveAfter d (os ++ (o ∷ [])) ≡ o .drive
+pub drive-last : (d : Drive) (os : List Outcome) (o : Outcome) → driveAfter d (os ++ (o ∷ [])) ≡ o .drive
 unfolding driveAfter
 drive-last d [] o = refl
 drive-last d (x ∷ os) o = drive-last (x .drive) os o

@@ -5,12 +5,12 @@ use mathlib.Core.List.{List, [], _∷_, _++_, map}
 use Prim.Native.Nat.{ℕ, _%_}
 use lib.ListN.{replicate}
 use Rattle.numbers.specs.Places.{placesFrom, tabulate}
-use Rattle.event.specs.Event.{event, bytesOf, readOf}
+use Rattle.event.specs.Event.{event, bytesOf}
 use Rattle.answer.specs.Answer.{numberOf}
 use Rattle.damper.specs.Record.{freshDrive}
 use Rattle.damper.specs.Step.{stepOf}
-use Rattle.damper.specs.Closed.{computation}
-use Rattle.hall.specs.Hall.{Call, give, tick, tickBytes, badNumber, namedIn, namesTwice, callRefusal, turnsOf}
+use Rattle.hall.specs.Closed.{computation}
+use Rattle.hall.specs.Hall.{Call, give, tick, tickBytes, callRefusal, turnsOf}
 
 -- how many drives, the call, and what refuses it
 pub record Corner : Type 0 where
@@ -99,7 +99,7 @@ table =
     ∷ []
 
 pub corners : map (λ (c : Corner). callRefusal (c .drives) (c .call)) table ≡ map (λ (c : Corner). c .number) table
-unfolding computation readOf badNumber namedIn namesTwice callRefusal
+unfolding computation
 corners = refl
 
 -- the damaged tick is refused by the drive, by 5
@@ -107,7 +107,11 @@ pub damaged-refused : numberOf (stepOf freshDrive damaged .answer) ≡ 5
 unfolding computation
 damaged-refused = refl
 
--- the empty list has no turns
+-- a list that names a drive twice has no turns, and the empty list none either
+pub twice-not-given : turnsOf 8 (give (7 ∷ 3 ∷ 7 ∷ []) setpoint 3) ≡ []
+unfolding computation
+twice-not-given = refl
+
 pub none-given : turnsOf 1 (give [] setpoint 0) ≡ []
-unfolding computation readOf badNumber namesTwice callRefusal turnsOf
+unfolding computation
 none-given = refl

@@ -53,13 +53,27 @@ bad-longer n m (i ∷ list) h e =
 
 -- What stands behind 14 to 16 is asked where none of them fits, and nowhere else.
 
+pub event-passed : (n : ℕ) (list s : List ℕ) (room more : ℕ) → eventRefusal n list s room more ≡ 0
+    → (badRow n ≡ false) × (badNumber n list ≡ false) × (badEvent list s room ≡ false) × (more ≡ 0)
+event-passed n list s room more e =
+    let r = passed (badRow n) 14 _ e (omega arith) in
+    let u = passed (badNumber n list) 15 _ (r .1) (omega arith) in
+    let m = passed (badEvent list s room) 16 _ (u .1) (omega arith) in
+    (r .0, u .0, m .0, m .1)
+
 first-of : (row number event : Bool) (more : ℕ)
     → (let first : ℕ = pick row 14 (pick number 15 (pick event 16 0)) in
-      pick row 14 (pick number 15 (pick event 16 more)) ≡ pick (eqb first 0) more first)
+    pick row 14 (pick number 15 (pick event 16 more)) ≡ pick (eqb first 0) more first)
 first-of true number event more = refl
 first-of false true event more = refl
 first-of false false true more = refl
 first-of false false false more = refl
+
+most-of : (row number event : Bool) → pick row 14 (pick number 15 (pick event 16 0)) ≤ 16
+most-of true number event = omega arith
+most-of false true event = omega arith
+most-of false false true = omega arith
+most-of false false false = omega arith
 
 module _ (n : ℕ) (list s : List ℕ) (room : ℕ) where
   abbrev first : ℕ
@@ -76,10 +90,10 @@ module _ (n : ℕ) (list s : List ℕ) (room : ℕ) where
 
   -- where it is asked, each number of the list is below 64
   pub few-numbers : first ≡ 0 → badNumber 64 list ≡ false
-  few-numbers e =
-      let r = passed (badRow n) 14 _ e (omega arith) in
-      let u = passed (badNumber n list) 15 _ (r .1) (omega arith) in
-      bad-longer n 64 list (row-few n (r .0)) (u .0)
+  few-numbers e = let p = event-passed n list s room 0 e in bad-longer n 64 list (row-few n (p .0)) (p .1)
+
+  pub first-most : first ≤ 16
+  first-most = most-of (badRow n) (badNumber n list) (badEvent list s room)
 
 -- An accepted call has room.
 
@@ -89,11 +103,9 @@ Fits n list room = ((k : ℕ) → k < length list → getD list k 0 < n) × (len
 given-fits : (n : ℕ) (list s : List ℕ) (room : ℕ) → callRefusal n (give list s room) ≡ 0 → Fits n list room
 unfolding callRefusal
 given-fits n list s room e =
-    let r = passed (badRow n) 14 _ e (omega arith) in
-    let u = passed (badNumber n list) 15 _ (r .1) (omega arith) in
-    let m = passed (badEvent list s room) 16 _ (u .1) (omega arith) .0 in
-    let most = or-right (isTick s) _ (or-left (isTick s || ltb 64 (length list)) _ m) in
-    (good-at n list (u .0), ltb-false 64 _ most, ltb-false room _ (or-right (isTick s || ltb 64 (length list)) _ m))
+    let p = event-passed n list s room _ e in
+    let most = or-right (isTick s) _ (or-left (isTick s || ltb 64 (length list)) _ (p .2)) in
+    (good-at n list (p .1), ltb-false 64 _ most, ltb-false room _ (or-right (isTick s || ltb 64 (length list)) _ (p .2)))
 
 -- a hall tick that is carried out: 1 to 64 drives, room for their numbers, and a quota of 1 to 64
 pub ticked-fits : (n quota room : ℕ) → tickRefusal n quota room ≡ 0 → (n ≤ 64) × (n ≤ room) × (1 ≤ quota)

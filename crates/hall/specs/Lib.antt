@@ -4,6 +4,8 @@ pub mod Quota
 pub mod Laws
 pub mod ListLaws
 pub mod TickLaws
+pub mod EventLaws
 pub mod NumberLaws
+pub mod Closed
 pub mod Corners
 pub mod QuotaCorners

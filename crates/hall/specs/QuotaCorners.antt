@@ -7,13 +7,12 @@ use lib.Dec.{eqb}
 use lib.ListN.{getD, set}
 use Rattle.table.specs.Table.{freshValues}
 use Rattle.rules.specs.Commands.{noCommands, interlocked}
-use Rattle.numbers.specs.Places.{allBelow, countBelow}
 use Rattle.damper.specs.declared.Drive.{Drive}
 use Rattle.damper.specs.declared.Outcome.{Outcome}
 use Rattle.damper.specs.Record.{drive, last, noRun, freshDrive, withCounts, withWait}
-use Rattle.damper.specs.Closed.{computation}
-use Rattle.hall.specs.Hall.{tick, callRefusal, hallTick, turn, turnsOf, tickNumber}
-use Rattle.hall.specs.Quota.{dueNow, hallTicked, longest, allowed}
+use Rattle.hall.specs.Closed.{computation}
+use Rattle.hall.specs.Hall.{tick, hallTick, turn, turnsOf, tickNumber}
+use Rattle.hall.specs.Quota.{hallTicked, longest, allowed}
 
 -- a drive with MinRepTime 1, due at the next tick for want of a report, that waited `w` hall ticks; one that is not due; one that is not
 -- well formed
@@ -41,7 +40,7 @@ abbrev gives : (d : Drive) (sent : Bool) (after : List ℕ) → shown (hallTicke
 gives d sent after e = record { before = d; sent = sent; after = after; is = e }
 
 pub ticked : List Ticked
-unfolding computation hallTicked
+unfolding computation
 ticked =
     -- sent: a report of position 0 and status 32
     gives (quick 0) true (0 ∷ 1 ∷ 0 ∷ 65568 ∷ []) refl
@@ -69,7 +68,7 @@ abbrev choice : (row : List Drive) (quota : ℕ) (sends : List Bool) (may : Bool
 choice row quota sends may e = record { row = row; quota = quota; sends = sends; may = may; is = e }
 
 pub choices : List Choice
-unfolding computation allBelow countBelow dueNow longest allowed
+unfolding computation
 choices =
     -- the longest wait, and of equal ones the lower number
     choice (quick 3 ∷ quick 5 ∷ []) 1 (false ∷ true ∷ []) true refl
@@ -100,10 +99,10 @@ choices =
 
 -- "One call ticks them all", each as it is sent or not
 pub all-ticked : turnsOf 2 (tick 1 (λ i. eqb i 1) 2) ≡ turn (hallTick false) 0 ∷ turn (hallTick true) 1 ∷ []
-unfolding callRefusal turnsOf
+unfolding computation
 all-ticked = refl
 
 -- "18 .. before any drive is ticked"
 pub none-ticked : turnsOf 2 (tick 65 (λ i. true) 2) ≡ []
-unfolding callRefusal turnsOf
+unfolding computation
 none-ticked = refl

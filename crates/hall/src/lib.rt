@@ -7,7 +7,9 @@ ghost use lib.ListN.{length, getD};
 ghost use Rattle.numbers.specs.Numbers.{pick};
 ghost use Rattle.hall.specs.Hall.{give, badRow, badNumber, isTick, namesTwice, tickRefusal, eventRefusal, callRefusal};
 use event::Decoded;
-use numbers::{flag, pick8, with_flag};
+use numbers::flag;
+use numbers::pick8;
+use numbers::with_flag;
 
 // The most drives of a row, and entries of a list.
 const MOST: usize = 64;

@@ -1,7 +1,7 @@
 -- Laws of flags that one number holds.
 use mathlib.Core.Path.{_≡_, refl, sym, ap, _∙_}
 use mathlib.Core.Bool.{Bool, true, false, _||_}
-use Prim.Native.Nat.{ℕ, zero, suc, _+_, _-_, _*_, _/_, _%_, _^_, _<_, max}
+use Prim.Native.Nat.{ℕ, zero, suc, _+_, _-_, _/_, _%_, _^_, _<_, max}
 use native.Mathlib.Omega.{arith}
 use native.Mathlib.Nat.{one-mul, zero-div, div-self, div-eq-of-lt, mod-lt, mul-add-mod-self-right}
 use lib.Dec.{ltb, eqb}
@@ -52,5 +52,5 @@ flag-more flags i j =
     let b = 2 ^ i / 2 ^ j in
     let low : a % 2 < 2 = mod-lt a (omega arith) in
     let digit : bitOr a b % 2 ≡ max (a % 2) (b % 2) % 2 =
-      ap (λ (x : ℕ). x % 2) (or-step a b) ∙ mul-add-mod-self-right (bitOr (a / 2) (b / 2)) 2 (max (a % 2) (b % 2)) in
+    ap (λ (x : ℕ). x % 2) (or-step a b) ∙ mul-add-mod-self-right (bitOr (a / 2) (b / 2)) 2 (max (a % 2) (b % 2)) in
     rw (or-shr flags (2 ^ i) j, digit, power-digit i j) (larger-digit (a % 2) (eqb j i) low)

@@ -6,22 +6,21 @@ use mathlib.Core.List.{List, [], _∷_, _++_}
 use Prim.Native.Nat.{ℕ}
 use lib.Dec.{eqb}
 use lib.ListN.{set}
-use Rattle.numbers.specs.Places.{allBelow, countBelow}
 use Rattle.table.specs.Table.{freshValues}
-use Rattle.event.specs.Event.{event, bytesOf, readOf}
+use Rattle.event.specs.Event.{event, bytesOf}
 use Rattle.event.specs.Kinds as Kind
 use Rattle.rules.specs.Commands.{noCommands}
 use Rattle.damper.specs.declared.Drive.{Drive}
 use Rattle.damper.specs.Record.{drive, last, noRun}
 use Rattle.damper.specs.WellFormed.{wellFormed}
-use Rattle.damper.specs.Closed as Closed
-use Rattle.hall.specs.Hall.{Call, give, tick, badNumber, callRefusal, Given, bytes, hallTick, turnsOf, at, rowAfter, turnsIn, hallAfter, sharedOut, share}
-use Rattle.hall.specs.Quota.{dueNow, hallTicked, hallStep, longest, allowed, allowedCalls}
+use Rattle.hall.specs.Closed as Closed
+use Rattle.hall.specs.Hall.{Call, give, tick, Given, bytes, hallTick, at, hallAfter, share}
+use Rattle.hall.specs.Quota.{dueNow, hallStep, allowedCalls}
 use Rattle.shares.specs.Bound.{ticksGiven, dueAtEach, sentAtOne, restarted}
 
--- `unfolding computation` opens drive and hall, so that a list of calls computes
+-- `unfolding computation` opens drive and hall, and what the bound speaks of
 unfoldable pub computation : Unit {0}
-unfolding Closed.computation readOf allBelow countBelow badNumber callRefusal turnsOf rowAfter turnsIn hallAfter sharedOut dueNow hallTicked longest allowed allowedCalls ticksGiven dueAtEach sentAtOne restarted
+unfolding Closed.computation ticksGiven dueAtEach sentAtOne restarted
 computation = tt
 
 -- whether a drive is sent, and whether it is due, at each hall tick of what it is given

@@ -2,6 +2,7 @@
 -- it, of that about waiting what the quota leaves, a host reads its reports off the numbers of the hall ticks, the shift page shows what the
 -- share says, and a drive that stays due and is not restarted meanwhile is sent within as many hall ticks as the hall has drives.
 pub mod Shares
+pub mod Once
 pub mod WaitLaws
 pub mod Bound
 pub mod BoundWitnesses

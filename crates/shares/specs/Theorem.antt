@@ -10,7 +10,7 @@ use native.Mathlib.Nat.{zero-add}
 use lib.Dec.{ltb, eqb}
 use lib.ListN.{length, length-map}
 use borrow.Author.Tests.{eqb-true, eqb-false, not-true}
-use Rattle.numbers.specs.Laws.{cases, passed, and-left, and-right, and-intro, or-left}
+use Rattle.numbers.specs.Laws.{cases, and-left, and-right, and-intro, or-left}
 use Rattle.numbers.specs.Places.{allBelow, implies}
 use Rattle.numbers.specs.PlaceLaws.{implied, all-at}
 use Rattle.event.specs.Event.{eventIn, readOf, formOf, dataRefusal, recordRefusal}
@@ -28,9 +28,9 @@ use Rattle.damper.specs.Laws.{refusal-none}
 use Rattle.damper.specs.CarryLaws.{outcomes-length}
 use Rattle.damper.specs.Carry.{outcomes, driveAfter}
 use Rattle.invariant.specs.Effects.{report-after, step-accepted, step-refused, refusal-wf}
-use Rattle.hall.specs.Hall.{Call, give, tick, badRow, badNumber, isTick, badEvent, tickRefusal, callRefusal, Given, bytes, hallTick, turn, tickBytes, bytesIn, turnsOf, at, rowAfter, turnsIn, hallAfter, sharedOut, share, own}
+use Rattle.hall.specs.Hall.{Call, give, tick, isTick, tickRefusal, callRefusal, Given, bytes, hallTick, turn, tickBytes, bytesIn, turnsOf, at, rowAfter, turnsIn, hallAfter, sharedOut, share, own}
 use Rattle.hall.specs.Quota.{dueNow, hallTicked, hallStep, allowed, allowedCall, allowedCalls}
-use Rattle.hall.specs.Laws.{row-length}
+use Rattle.hall.specs.Laws.{event-passed, row-length}
 use Rattle.history.specs.Readings as Readings
 use Rattle.history.specs.Readings.{judgement}
 use Rattle.history.specs.Claim.{Moment, Trace, momentOf, accepted, acceptedAs, reportIn, Waiting, dueIn, HallHolds, HallClaim, traceOn, reportsFrom}
@@ -64,9 +64,7 @@ fitting-append d (hallTick sent ∷ gs) hs p q =
 pub no-tick : (n : ℕ) (list s : List ℕ) (room : ℕ) → callRefusal n (give list s room) ≡ 0 → isTick s ≡ false
 unfolding callRefusal
 no-tick n list s room e =
-    let u = passed (badNumber n list) 15 _ (passed (badRow n) 14 _ e (omega arith) .1) (omega arith) in
-    let m = passed (badEvent list s room) 16 0 (u .1) (omega arith) .0 in
-    or-left (isTick s) _ (or-left (isTick s || ltb 64 (length list)) _ m)
+    or-left (isTick s) _ (or-left (isTick s || ltb 64 (length list)) _ (event-passed n list s room _ e .2))
 
 events-fit : (i : ℕ) (s : List ℕ) → isTick s ≡ false → (d : Drive) (list : List ℕ) → fitting d (sharedOut i (map (turn (bytes s)) list)) ≡ true
 unfolding fitting sharedOut

@@ -12,7 +12,7 @@ use Rattle.rules.specs.Report.{Sent, silent, sent, reportDue}
 use Rattle.answer.specs.declared.Answer.the-variants.{Done, Tick}
 use Rattle.damper.specs.declared.Drive.{Drive}
 use Rattle.damper.specs.Record.{freshDrive}
-use Rattle.hall.specs.Hall.{Call, give, tickBytes, turned, hallTurned, ownOf}
+use Rattle.hall.specs.Hall.{Call, give, tickBytes}
 use Rattle.hall.specs.Quota.{allowedCalls}
 use Rattle.history.specs.Readings.{isRestart}
 use Rattle.history.specs.Closed.{readings}
@@ -25,7 +25,7 @@ use Rattle.shares.specs.Waited.{waitOf}
 
 -- `unfolding computation` opens drive, hall and trace
 unfoldable computation : Unit {0}
-unfolding Bound.computation readings turned hallTurned ownOf accepted lastReport traceOn Counts.ticksIn Counts.since reportDue waitOf
+unfolding Bound.computation readings accepted lastReport traceOn Counts.ticksIn Counts.since reportDue waitOf
 computation = tt
 
 abbrev three : List Drive

@@ -1,27 +1,23 @@
--- A hall of three by computation: a fresh drive, one that is not well formed and one that is open, under calls with repeats,
--- refused ones and three hall ticks, of which each of the first two holds back a report that is due.
+-- A hall of three by computation: a fresh drive, one that is not well formed and one that is open, under calls, refused ones among them,
+-- and three hall ticks, of which each of the first two holds back a report that is due.
 use mathlib.Core.Path.{_≡_, refl}
 use mathlib.Core.Bool.{Bool, true, false, _||_}
 use mathlib.Core.List.{List, [], _∷_, _++_, map}
 use Prim.Native.Nat.{ℕ, _+_, _*_}
 use lib.Dec.{eqb}
 use lib.ListN.{length, replicate, set, take}
-use Rattle.numbers.specs.Places.{allBelow, countBelow}
 use Rattle.table.specs.Table.{freshValues}
-use Rattle.event.specs.Event.{readOf}
 use Rattle.rules.specs.Commands.{noCommands, interlocked}
 use Rattle.rules.specs.Report.{sent}
 use Rattle.answer.specs.declared.Answer.{Answer}
-use Rattle.answer.specs.declared.Answer.the-variants.{Done, Par, Tick, Report}
+use Rattle.answer.specs.declared.Answer.the-variants.{Done, Tick, Report}
 use Rattle.damper.specs.declared.Drive.{Drive}
 use Rattle.damper.specs.declared.Outcome.{Outcome}
-use Rattle.damper.specs.Record.{drive, last, noRun, freshDrive, withPosition}
-use Rattle.damper.specs.Step.{outcome}
-use Rattle.damper.specs.Carry.{StepOn, answersIn}
-use Rattle.damper.specs.Closed as Closed
+use Rattle.damper.specs.Record.{drive, last, noRun, freshDrive}
+use Rattle.hall.specs.Closed as Closed
 use Rattle.hall.specs.Hall as H
-use Rattle.hall.specs.Hall.{Call, give, badNumber, callRefusal, Given, bytes, hallTick, bytesIn, turnsOf, at, turned, rowAfter, answersAfter, turnsIn, hallAfter, hallTurned, sharedOut, ownOf, share, own}
-use Rattle.hall.specs.Quota.{dueNow, hallTicked, hallStep, longest, allowed, allowedCalls}
+use Rattle.hall.specs.Hall.{Call, give, callRefusal, bytes, hallTick, bytesIn, turnsOf, at, rowAfter, answersAfter, hallAfter, share, own}
+use Rattle.hall.specs.Quota.{hallStep, allowedCalls}
 use Rattle.line.specs.Text.{text}
 use Rattle.line.specs.Line.{decimal, digitsWithin}
 use Rattle.shift.specs.Shift.{right, left, binary, driveLine, linesFrom, pageRefusal, pageAfter}
@@ -33,9 +29,9 @@ use Rattle.shares.specs.SharedLog.{sharedLogFrom, sharedLog}
 use Rattle.shares.specs.HostLog.{Lent, hostLog}
 use Rattle.shares.specs.PageRead.{lineIn}
 
--- `unfolding computation` opens drive and hall, so that a list of calls computes
+-- `unfolding computation` opens drive and hall, and what is read off the calls
 unfoldable computation : Unit {0}
-unfolding Closed.computation readOf allBelow countBelow answersIn badNumber callRefusal turnsOf turned rowAfter answersAfter turnsIn hallAfter hallTurned sharedOut ownOf dueNow hallTicked longest allowed allowedCalls reportsFrom hostLog
+unfolding Closed.computation reportsFrom hostLog
 computation = tt
 
 -- the event records, as bytes
@@ -69,11 +65,13 @@ only j i = eqb i j
 
 abbrev calls : List Call
 calls =
-    give (0 ∷ 0 ∷ 2 ∷ []) everyTick 3
-    ∷ give (2 ∷ 0 ∷ 0 ∷ []) (setpoint 128) 4
+    give (0 ∷ 2 ∷ []) everyTick 3
+    ∷ give (2 ∷ 0 ∷ []) (setpoint 128) 4
     -- there is no drive 3
     ∷ give (0 ∷ 3 ∷ []) (setpoint 255) 2
-    ∷ give (2 ∷ 2 ∷ []) calibration 2
+    ∷ give (2 ∷ []) calibration 2
+    -- drive 2 is named twice
+    ∷ give (2 ∷ 0 ∷ 2 ∷ []) calibration 3
     ∷ give (1 ∷ []) (setpoint 7) 1
     -- a tick is no event for a list, and two answers have no room in a row of one
     ∷ give (0 ∷ []) tick 1
@@ -90,7 +88,7 @@ calls =
     ∷ []
 
 -- which of them are refused
-pub refusals : map (callRefusal 3) calls ≡ 0 ∷ 0 ∷ 15 ∷ 0 ∷ 0 ∷ 16 ∷ 16 ∷ 0 ∷ 16 ∷ 18 ∷ 0 ∷ 0 ∷ []
+pub refusals : map (callRefusal 3) calls ≡ 0 ∷ 0 ∷ 15 ∷ 0 ∷ 19 ∷ 0 ∷ 16 ∷ 16 ∷ 0 ∷ 16 ∷ 18 ∷ 0 ∷ 0 ∷ []
 unfolding computation
 refusals = refl
 
@@ -99,10 +97,10 @@ pub allowing : allowedCalls hall calls ≡ true
 unfolding computation
 allowing = refl
 
--- the three shares: a repeat counts twice, a refused call not at all
-pub shares : (share 3 0 calls ≡ map bytes (everyTick ∷ everyTick ∷ setpoint 128 ∷ setpoint 128 ∷ []) ++ map hallTick (true ∷ false ∷ true ∷ []))
+-- the three shares: a refused call is in none
+pub shares : (share 3 0 calls ≡ map bytes (everyTick ∷ setpoint 128 ∷ []) ++ map hallTick (true ∷ false ∷ true ∷ []))
     × (share 3 1 calls ≡ bytes (setpoint 7) ∷ map hallTick (false ∷ false ∷ false ∷ []))
-    × (share 3 2 calls ≡ map bytes (everyTick ∷ setpoint 128 ∷ calibration ∷ calibration ∷ []) ++ map hallTick (false ∷ true ∷ true ∷ []))
+    × (share 3 2 calls ≡ map bytes (everyTick ∷ setpoint 128 ∷ calibration ∷ []) ++ map hallTick (false ∷ true ∷ true ∷ []))
 unfolding computation
 shares = (refl, refl, refl)
 
@@ -123,10 +121,11 @@ report p s = 65536 + 256 * p + s
 -- the fresh drive reports 5, is held at 10 and reports 15; the open one is held at 72 in calibration, reports 0 and, its run being over,
 -- 128; the broken one is refused by 1
 pub answers : answerRows hall calls
-    ≡ (0 ∷ 0 ∷ 0 ∷ [])
-    ∷ (0 ∷ 0 ∷ 0 ∷ 9 ∷ [])
+    ≡ (0 ∷ 0 ∷ 9 ∷ [])
+    ∷ (0 ∷ 0 ∷ 9 ∷ 9 ∷ [])
     ∷ (9 ∷ 9 ∷ [])
-    ∷ (0 ∷ 0 ∷ [])
+    ∷ (0 ∷ 9 ∷ [])
+    ∷ (9 ∷ 9 ∷ 9 ∷ [])
     ∷ (1 ∷ [])
     ∷ (9 ∷ [])
     ∷ (9 ∷ [])
@@ -143,7 +142,7 @@ answers = refl
 abbrev waitsAfter : ℕ → List ℕ
 waitsAfter k = map (λ (d : Drive). d .wait) (hallAfter hallStep hall (take k calls))
 
-pub waits : (waitsAfter 8 ≡ 0 ∷ 0 ∷ 1 ∷ []) × (waitsAfter 11 ≡ 1 ∷ 0 ∷ 0 ∷ []) × (waitsAfter 12 ≡ 0 ∷ 0 ∷ 0 ∷ [])
+pub waits : (waitsAfter 9 ≡ 0 ∷ 0 ∷ 1 ∷ []) × (waitsAfter 12 ≡ 1 ∷ 0 ∷ 0 ∷ []) × (waitsAfter 13 ≡ 0 ∷ 0 ∷ 0 ∷ [])
 unfolding computation
 waits = (refl, refl, refl)
 
@@ -166,13 +165,13 @@ stand = (refl, refl)
 abbrev answersOf : List Outcome → List Answer
 answersOf os = map (λ (o : Outcome). o .answer) os
 
-pub owned : answersOf (own hallStep hall 0 calls) ≡ Done ∷ Done ∷ Done ∷ Done ∷ Report 5 1 1 0 ∷ Tick 10 1 1 ∷ Report 15 1 1 0 ∷ []
+pub owned : answersOf (own hallStep hall 0 calls) ≡ Done ∷ Done ∷ Report 5 1 1 0 ∷ Tick 10 1 1 ∷ Report 15 1 1 0 ∷ []
 unfolding computation
 owned = refl
 
 -- its reports, numbered within its share, and read off it
-pub log : (reportsFrom 0 (own hallStep hall 0 calls) ≡ entry 5 5 0 ∷ entry 7 15 0 ∷ [])
-    × (sharedLog (share 3 0 calls) ≡ entry 5 5 0 ∷ entry 7 15 0 ∷ [])
+pub log : (reportsFrom 0 (own hallStep hall 0 calls) ≡ entry 3 5 0 ∷ entry 5 15 0 ∷ [])
+    × (sharedLog (share 3 0 calls) ≡ entry 3 5 0 ∷ entry 5 15 0 ∷ [])
 unfolding computation readings sharedLogFrom
 log = (refl, refl)
 
@@ -184,22 +183,19 @@ pub unnamed : (share 3 2 elsewhere ≡ []) × (at (hallAfter hallStep hall elsew
 unfolding computation
 unnamed = (refl, refl)
 
--- Of a drive named twice the second giving starts from the drive that the first left. A calibration leaves the same drive after two
--- givings as after one, so that a step which counts has to show it.
-abbrev calibrating : List ℕ → List Call
-calibrating list = give list calibration 2 ∷ []
+-- A list that names a drive twice leaves the row as it was; without the repeat it leaves one row, whatever its order, in which the drives
+-- that it names calibrate.
+abbrev calibrating : List ℕ → List Drive
+calibrating list = hallAfter hallStep hall (give list calibration 3 ∷ [])
 
-pub same : at (hallAfter hallStep hall (calibrating (0 ∷ 0 ∷ []))) 0 ≡ at (hallAfter hallStep hall (calibrating (0 ∷ []))) 0
+abbrev runs : List Drive → List ℕ
+runs row = map (λ (d : Drive). d .run .left) row
+
+pub pasted : (calibrating (2 ∷ 0 ∷ 2 ∷ []) ≡ hall)
+    × (calibrating (2 ∷ 0 ∷ []) ≡ calibrating (0 ∷ 2 ∷ []))
+    × (runs (calibrating (2 ∷ 0 ∷ [])) ≡ 51 ∷ 0 ∷ 2 ∷ [])
 unfolding computation
-same = refl
-
-abbrev counting : StepOn Given
-counting d g = outcome (withPosition d (d .position + 1)) (Par (d .position))
-
-pub twice : (answersOf (own counting hall 0 (calibrating (0 ∷ 0 ∷ []))) ≡ Par 0 ∷ Par 1 ∷ [])
-    × (at (hallAfter counting hall (calibrating (0 ∷ 0 ∷ []))) 0 .position ≡ 2)
-unfolding computation
-twice = (refl, refl)
+pasted = (refl, refl, refl)
 
 -- What a host notes that lends rows with old reports in them: what its hall ticks report, also of a damper that is closed without
 -- status, and nothing of a report that is held back or of the drive that is not well formed.

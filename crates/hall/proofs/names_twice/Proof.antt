@@ -1,10 +1,11 @@
 -- The loop has met the numbers before `k`, each once, and has set their flags and no others.
 use borrow.Author.Needs.{needs}
-use mathlib.Core.Path.{_≡_, refl, sym, _∙_}
-use mathlib.Core.Bool.{false}
+use mathlib.Core.Path.{_≡_, refl, sym, ap, _∙_}
+use mathlib.Core.Bool.{Bool, false, _||_}
 use mathlib.Core.List.{List}
 use Prim.Native.Nat.{ℕ, _-_, _<_, _≤_}
 use native.Mathlib.Omega.{arith}
+use lib.Dec.{eqb}
 use lib.ListN.{length, getD, take}
 use lib.Seq.{take-all}
 use Rattle.numbers.specs.Numbers.{flagAt}
@@ -62,11 +63,13 @@ loop-again c =
     let l = c .before .before .before .before .before .loop in
     let less = c .before .before .before .before .loop-test .taken in
     let number : c .before .before .before .entry .result ≡ getD list (l .k) 0 = c .before .before .before .entry .ensures in
-    let new = sym (l .inv .2 _) ∙ sym (c .before .before .flag .ensures) ∙ c .before .if1 .left in
-    (
+    let new = sym (l .inv .2 _) ∙ sym (c .before .before .flag .ensures) ∙ c .before .if1 .left in (
       search needs,
       met-once (l .k) list less (l .inv .1) (rw number at new),
-      λ i. c .with-flag .ensures i ∙ rw (number, l .inv .2 i) (sym (met-more i (l .k) list less)),
+      λ i.
+          c .with-flag .ensures i
+          ∙ ap (λ (b : Bool). eqb i (c .before .before .before .entry .result) || b) (l .inv .2 i)
+          ∙ rw number (sym (met-more i (l .k) list less)),
     )
 
 returns-2 : tie.Need-returns-2 Inv-loop μ-loop

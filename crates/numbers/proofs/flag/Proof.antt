@@ -1,6 +1,6 @@
 use borrow.Author.Needs.{needs}
-use mathlib.Core.Path.{_≡_, ap}
-use Prim.Native.Nat.{ℕ, _/_, _^_}
+use mathlib.Core.Path.{ap}
+use Prim.Native.Nat.{_/_, _^_}
 use lib.Bits.{and-mask}
 use Rattle.numbers.specs.Numbers.{on}
 use Rattle.numbers.proofs.flag.Statement.{statement}
