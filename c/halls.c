@@ -1,9 +1,9 @@
 /*
  * The three calls of a hall, as a C host makes them, beside the plain ones: halls of fresh, well-formed and broken drives,
  * each taken through a number of calls. After each call the number that it gives, every drive, every place of the answers and
- * every byte of the page must agree, those before and behind what was lent among them. Which due drives a hall tick sends is
- * free in part: those that it has sent must be an allowed choice, and the plain hall tick sends the same. Each drive must have
- * its turn. Each case below must be met a thousand times.
+ * every byte of the page must agree, those before and behind what was lent among them. No call that names a drive twice may be
+ * carried out, and 19 needs one. Which due drives a hall tick sends is free in part: those that it has sent must be an allowed
+ * choice, and the plain hall tick sends the same. Each drive must have its turn. Each case below must be met a thousand times.
  */
 #include "compare.h"
 #include "plain.h"
@@ -12,7 +12,7 @@
 #include <stdlib.h>
 #include <string.h>
 
-#define CALLS 900000
+#define CALLS 1200000
 #define LEAST 1000
 #define FRONT 2         /* places before a row */
 #define MOST_ENTRIES 70 /* of a list */
@@ -60,6 +60,7 @@ static size_t turns[ROOM];
     of(EVENT_14, "event call refused by 14")                            \
     of(EVENT_15, "by 15")                                               \
     of(EVENT_16, "by 16")                                               \
+    of(EVENT_19, "by 19")                                               \
     of(TICK_GIVEN, "hall tick")                                         \
     of(TICK_14, "refused by 14")                                        \
     of(TICK_16, "by 16")                                                \
@@ -99,8 +100,23 @@ static size_t turns[ROOM];
     of(TICK_EMPTY, "with an empty list")                                \
     of(TICK_DAMAGED, "damaged tick given")                              \
     of(EMPTY, "empty list of another event")                            \
-    of(REPEATED, "list with a repeat given")                            \
-    of(ONCE, "without one")                                             \
+    of(TWICE_NEIGHBOURS, "list refused by 19 for neighbours alone")     \
+    of(TWICE_ENDS, "for the first and the last entry alone")            \
+    of(TWICE_NOT_FIRST, "with a first entry that is not repeated")      \
+    of(TWICE_AT_LAST, "for the last entry and another alone")           \
+    of(TWICE_INSIDE, "with a first and a last that are not repeated")   \
+    of(TWICE_IN_64, "for a single pair in 64 entries")                  \
+    of(TWICE_ON_THREE, "for 64 entries on three drives")                \
+    of(TWICE_CALIBRATION, "with a calibration")                         \
+    of(TWICE_DAMAGED, "with bytes that every drive refuses")            \
+    of(TWICE_OF_1, "in a row of 1")                                     \
+    of(TWICE_14, "list with a repeat refused by 14")                    \
+    of(TWICE_15, "by 15")                                               \
+    of(TWICE_TICK, "by 16 for an accepted tick alone")                  \
+    of(TWICE_LONG, "for over 64 entries alone")                         \
+    of(TWICE_SHORT, "for too few places alone")                         \
+    of(ONCE, "list of several without a repeat given")                  \
+    of(ONCE_SCATTERED, "not in ascending order")                        \
     of(NOT_NAMED, "drive not named")                                    \
     of(SILENT, "silent tick")                                           \
     of(REPORT, "report")                                                \
@@ -233,15 +249,16 @@ static size_t random_drives(void)
     case 0: return 0;
     case 1: return DAMPER_HALL_MOST + 1;
     case 2: return 1;
-    case 3: return DAMPER_HALL_MOST;
-    case 4:
+    case 3:
+    case 4: return DAMPER_HALL_MOST;
     case 5:
-    case 6: return 1 + random_below(DAMPER_HALL_MOST);
+    case 6:
+    case 7: return 1 + random_below(DAMPER_HALL_MOST);
     default: return 1 + random_below(12);
     }
 }
 
-static size_t random_entries(void)
+static size_t random_entries(size_t drives)
 {
     switch (random_below(16)) {
     case 0: return 0;
@@ -249,8 +266,71 @@ static size_t random_entries(void)
     case 2:
     case 3: return DAMPER_HALL_MOST + 1 + random_below(MOST_ENTRIES - DAMPER_HALL_MOST);
     case 4: return random_below(MOST_ENTRIES + 1);
+    case 5:
+    case 6:
+    case 7: return drives < DAMPER_HALL_MOST ? drives : DAMPER_HALL_MOST;
     default: return 1 + random_below(8);
     }
+}
+
+/* Each drive once, from any one on or in any order. */
+static void random_order(uint32_t *order, uint32_t drives)
+{
+    uint32_t first = random_below(drives);
+    for (uint32_t i = 0; i < drives; i++)
+        order[i] = (first + i) % drives;
+    for (uint32_t left = random_below(2) ? drives : 0; left > 1; left--) {
+        uint32_t place = random_below(left), number = order[place];
+        order[place] = order[left - 1];
+        order[left - 1] = number;
+    }
+}
+
+/* Two entries name one drive and each other one its own; no more entries than there are drives for. */
+static void list_with_pair(call *c, const uint32_t *order, uint32_t drives)
+{
+    if (c->entries > drives + 1)
+        c->entries = drives + 1;
+    uint32_t last = (uint32_t)c->entries - 1, place = random_below(last);
+    uint32_t again = place + 1 + random_below(last - place);
+    switch (random_below(6)) {
+    case 0: again = place + 1; break;
+    case 1: again = last; break;
+    case 2: place = 0; break;
+    case 3:
+        place = 0;
+        again = last;
+        break;
+    case 4: /* neither the first nor the last */
+        if (last > 2) {
+            place = 1 + random_below(last - 2);
+            again = place + 1 + random_below(last - 1 - place);
+        }
+        break;
+    default: break;
+    }
+    for (size_t k = 0; k < c->entries; k++)
+        c->list[k] = k == again ? c->list[place] : *order++;
+}
+
+/* Three in fourteen have a pair, one names up to three drives, one any; the others repeat none up to 64 entries. */
+static void random_list(call *c)
+{
+    uint32_t order[ROOM], drives = c->drives > 0 ? (uint32_t)c->drives : 1, kind = random_below(14);
+    random_order(order, drives);
+    c->entries = random_entries(c->drives);
+    if (kind < 3 && c->entries > 1) {
+        list_with_pair(c, order, drives);
+        return;
+    }
+    if (kind == 3) {
+        c->entries = random_below(2) ? DAMPER_HALL_MOST : c->entries;
+        drives = drives < 3 ? drives : 3;
+    }
+    if (kind > 4 && c->entries <= DAMPER_HALL_MOST && c->entries > drives)
+        c->entries = drives;
+    for (size_t k = 0; k < c->entries; k++)
+        c->list[k] = order[kind > 4 ? k % drives : random_below(drives)];
 }
 
 /* Not below the row's length. */
@@ -338,9 +418,7 @@ static call random_call(size_t drives)
         c.quota = c.kind == TICK_CALL ? random_quota(drives) : 0;
         return c;
     }
-    c.entries = random_entries();
-    for (size_t k = 0; k < c.entries; k++)
-        c.list[k] = random_below(drives > 0 ? (uint32_t)drives : 1);
+    random_list(&c);
     if (c.entries > 0 && random_below(5) == 0) {
         size_t place = random_below((uint32_t)c.entries);
         if (c.entries > DAMPER_HALL_MOST && random_below(2))
@@ -565,8 +643,51 @@ static void count_tick(const call *c, uint8_t refusal)
     counts[BROKEN_LONGER] += longer;
 }
 
-/* Counts the cases of a call; `named` says how often each drive is. */
-static void count(const call *c, uint8_t refusal, const unsigned *named)
+/* Whether one number stands at two places of the list. */
+static bool has_repeat(const call *c)
+{
+    for (size_t k = 1; k < c->entries; k++)
+        for (size_t i = 0; i < k; i++)
+            if (c->list[i] == c->list[k])
+                return true;
+    return false;
+}
+
+/* A list refused by 19: where the entries stand that name one drive, and what it was given with. */
+static void count_twice(const call *c)
+{
+    size_t last = c->entries - 1, pairs = 0, named = 0;
+    bool neighbours = true, ends = last > 1, not_first = true, at_last = true, not_last = true;
+    bool seen[DAMPER_HALL_MOST] = {false};
+    for (size_t k = 0; k <= last; k++) {
+        for (size_t i = 0; i < k; i++) {
+            if (c->list[i] != c->list[k])
+                continue;
+            pairs++;
+            neighbours = neighbours && i + 1 == k;
+            ends = ends && i == 0 && k == last;
+            not_first = not_first && i > 0;
+            at_last = at_last && k == last;
+            not_last = not_last && k < last;
+        }
+        named += !seen[c->list[k]];
+        seen[c->list[k]] = true;
+    }
+    damper_event found = damper_read(c->given.bytes, c->given.length);
+    counts[TWICE_NEIGHBOURS] += neighbours;
+    counts[TWICE_ENDS] += ends;
+    counts[TWICE_NOT_FIRST] += not_first;
+    counts[TWICE_AT_LAST] += at_last;
+    counts[TWICE_INSIDE] += not_first && not_last;
+    counts[TWICE_IN_64] += c->entries == DAMPER_HALL_MOST && pairs == 1;
+    counts[TWICE_ON_THREE] += c->entries == DAMPER_HALL_MOST && named == 3;
+    counts[TWICE_CALIBRATION] += found.refusal == 0 && found.kind == DAMPER_KIND_CALIBRATION;
+    counts[TWICE_DAMAGED] += found.refusal != 0;
+    counts[TWICE_OF_1] += c->drives == 1;
+}
+
+/* Counts the cases of a call; `named` says which drives it gave something. */
+static void count(const call *c, uint8_t refusal, const bool *named)
 {
     size_t asked = c->kind == TICK_CALL ? c->drives : c->entries, bad = c->entries;
     counts[ROW_OF_0] += c->drives == 0;
@@ -584,18 +705,23 @@ static void count(const call *c, uint8_t refusal, const unsigned *named)
         count_tick(c, refusal);
         return;
     }
-    bool is_tick = accepted_tick(&c->given), over = c->entries > DAMPER_HALL_MOST, repeat = false;
+    bool is_tick = accepted_tick(&c->given), over = c->entries > DAMPER_HALL_MOST, shorter = c->places < c->entries;
+    bool repeat = has_repeat(c), scattered = false;
     for (size_t k = c->entries; k-- > 0;)
         if (c->list[k] >= c->drives)
             bad = k;
     switch (refusal) {
-    case DAMPER_HALL_REFUSAL_ROW: counts[EVENT_14]++; break;
+    case DAMPER_HALL_REFUSAL_ROW:
+        counts[EVENT_14]++;
+        counts[TWICE_14] += repeat;
+        break;
     case DAMPER_HALL_REFUSAL_NUMBER:
         counts[EVENT_15]++;
+        counts[TWICE_15] += repeat;
         counts[BAD_BEYOND] += bad >= DAMPER_HALL_MOST;
         counts[BAD_LONG] += over;
         counts[BAD_TICK] += is_tick;
-        counts[BAD_SHORT] += c->places < c->entries;
+        counts[BAD_SHORT] += shorter;
         counts[BAD_EQUAL] += c->list[bad] == c->drives;
         counts[BAD_LAST] += c->list[bad] == UINT32_MAX;
         counts[BAD_LOW_BYTE] += (c->list[bad] & 255) < c->drives;
@@ -605,18 +731,29 @@ static void count(const call *c, uint8_t refusal, const unsigned *named)
         counts[LONG] += over;
         counts[TICK_LISTED] += is_tick && c->entries > 0;
         counts[TICK_EMPTY] += is_tick && c->entries == 0;
+        counts[TWICE_TICK] += repeat && is_tick && !over && !shorter;
+        counts[TWICE_LONG] += repeat && over && !is_tick && !shorter;
+        counts[TWICE_SHORT] += repeat && shorter && !is_tick && !over;
+        break;
+    case DAMPER_HALL_REFUSAL_TWICE:
+        counts[EVENT_19]++;
+        if (!repeat)
+            differ("refused by 19, and no drive is named twice", c);
+        count_twice(c);
         break;
     default:
         counts[EVENT_GIVEN]++;
         counts[EMPTY] += c->entries == 0;
         counts[FULL] += c->entries == DAMPER_HALL_MOST;
         counts[TICK_DAMAGED] += c->entries > 0 && c->given.length > 2 && c->given.bytes[2] == DAMPER_KIND_TICK;
-        for (size_t i = 0; i < c->drives; i++) {
-            repeat = repeat || named[i] > 1;
-            counts[NOT_NAMED] += named[i] == 0;
-        }
-        counts[REPEATED] += repeat;
-        counts[ONCE] += !repeat && c->entries > 0;
+        if (repeat)
+            differ("a drive is named twice, and the call is not refused", c);
+        for (size_t i = 0; i < c->drives; i++)
+            counts[NOT_NAMED] += !named[i];
+        for (size_t k = 1; k < c->entries; k++)
+            scattered = scattered || c->list[k - 1] > c->list[k];
+        counts[ONCE] += c->entries > 1;
+        counts[ONCE_SCATTERED] += scattered;
         for (size_t k = 0; k < c->entries; k++) {
             bool done = proved.answers[FRONT + k] == 0, waited = before.row[FRONT + c->list[k]].wait > 0;
             bool is_restart = c->given.length > 2 && c->given.bytes[2] == DAMPER_KIND_RESTART;
@@ -705,14 +842,14 @@ static void compare(const call *c)
     if (refusal == 0 && c->kind == TICK_CALL)
         judge_choice(c);
 
-    unsigned named[ROOM] = {0};
+    bool named[ROOM] = {false};
     if (refusal == 0 && c->kind != PAGE_CALL)
         for (size_t i = 0; i < (c->kind == TICK_CALL ? c->drives : c->entries); i++)
-            named[c->kind == TICK_CALL ? i : c->list[i]]++;
+            named[c->kind == TICK_CALL ? i : c->list[i]] = true;
     for (size_t at = 0; at < ROOM; at++) {
         if (!same(&proved.row[at], &plain.row[at]))
             differ_at("the drives differ", c, at);
-        if ((at < FRONT || named[at - FRONT] == 0) && memcmp(&proved.row[at], &before.row[at], sizeof proved.row[at]) != 0)
+        if ((at < FRONT || !named[at - FRONT]) && memcmp(&proved.row[at], &before.row[at], sizeof proved.row[at]) != 0)
             differ_at("not named, and the drive has changed", c, at);
         if (proved.answers[at] != plain.answers[at] || proved.numbers[at] != plain.numbers[at])
             differ_at("the answers differ", c, at);
@@ -873,9 +1010,9 @@ int main(void)
         }
     }
 
-    unsigned long calls = counts[EVENT_GIVEN] + counts[EVENT_14] + counts[EVENT_15] + counts[EVENT_16] + counts[TICK_GIVEN] +
-                          counts[TICK_14] + counts[TICK_16] + counts[TICK_18_NONE] + counts[TICK_18_OVER] + counts[PAGE_EXACT] +
-                          counts[PAGE_MORE] + counts[PAGE_LONGER] + counts[PAGE_14] + counts[PAGE_17];
+    unsigned long calls = counts[EVENT_GIVEN] + counts[EVENT_14] + counts[EVENT_15] + counts[EVENT_16] + counts[EVENT_19] +
+                          counts[TICK_GIVEN] + counts[TICK_14] + counts[TICK_16] + counts[TICK_18_NONE] + counts[TICK_18_OVER] +
+                          counts[PAGE_EXACT] + counts[PAGE_MORE] + counts[PAGE_LONGER] + counts[PAGE_14] + counts[PAGE_17];
     printf("halls in C: %lu calls agree; met:", calls);
     for (int i = 0; i < COUNTS; i++)
         printf("%s %s %lu", i > 0 ? "," : "", texts[i], counts[i]);

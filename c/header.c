@@ -578,8 +578,8 @@ static void hall_refusals(damper_drive fresh)
         CHECK(give_hall(8, list, 1, a_setpoint, SIX, 1) == no_drive && untouched());
     }
     list[0] = 7;
-    CHECK(give_hall(8, list, 8, a_setpoint, SIX, 8) == 0);
-    CHECK(give_hall(7, list, 8, a_setpoint, SIX, 8) == no_drive && untouched());
+    CHECK(give_hall(8, list, 7, a_setpoint, SIX, 7) == 0);
+    CHECK(give_hall(7, list, 7, a_setpoint, SIX, 7) == no_drive && untouched());
     list[0] = DAMPER_HALL_MOST;
     CHECK(give_hall(most, list, 1, a_setpoint, SIX, 1) == no_drive && untouched());
     list[0] = 1;

@@ -1,6 +1,6 @@
 /*
  * The damper drive of document 01, with the percents of request W-202, the hall of request W-201 with the quota of request
- * W-204, and the shift page of request W-203.
+ * W-204 and the refusal of repeats of request W-205, and the shift page of request W-203.
  */
 #include "plain.h"
 
@@ -428,6 +428,18 @@ static bool is_tick(const uint8_t *bytes, size_t length)
     return length == sizeof good && memcmp(bytes, good, sizeof good) == 0;
 }
 
+/* Goes through the list and stops at a drive that has been named before; the numbers are drives of a row. */
+static bool names_again(const uint32_t *list, size_t entries)
+{
+    bool named[DAMPER_HALL_MOST] = {false};
+    for (size_t k = 0; k < entries; k++) {
+        if (named[list[k]])
+            return true;
+        named[list[k]] = true;
+    }
+    return false;
+}
+
 uint8_t plain_hall_event(damper_drive *row, size_t drives, const uint32_t *list, size_t entries, const uint8_t *bytes,
                          size_t length, uint8_t *answers, size_t places)
 {
@@ -438,6 +450,8 @@ uint8_t plain_hall_event(damper_drive *row, size_t drives, const uint32_t *list,
             return DAMPER_HALL_REFUSAL_NUMBER;
     if (is_tick(bytes, length) || entries > DAMPER_HALL_MOST || places < entries)
         return DAMPER_HALL_REFUSAL_CALL;
+    if (names_again(list, entries))
+        return DAMPER_HALL_REFUSAL_TWICE;
     for (size_t k = 0; k < entries; k++) {
         answer given = step(&row[list[k]], bytes, length);
         answers[k] = damper_answer_refusal(given.word, given.code);

@@ -52,7 +52,7 @@ static void print_page(void)
 
 int main(void)
 {
-    const uint32_t all[] = {0, 1, 2}, outer[] = {0, 2}, middle[] = {1}, mistaken[] = {1, 3};
+    const uint32_t all[] = {0, 1, 2}, outer[] = {0, 2}, middle[] = {1}, mistaken[] = {1, 3}, pasted[] = {0, 2, 0};
     for (int i = 0; i < DRIVES; i++)
         row[i] = damper_fresh();
 
@@ -60,6 +60,7 @@ int main(void)
     give(middle, 1, DAMPER_KIND_FORCING, DAMPER_FORCING_TO_255, 0, 0);
     give(all, 3, DAMPER_KIND_CALIBRATION, 0, 0, 0);     /* the forced one refuses it */
     give(mistaken, 2, DAMPER_KIND_SETPOINT, 255, 0, 0); /* there is no drive 3: drive 1 is given nothing either */
+    give(pasted, 3, DAMPER_KIND_SETPOINT, 255, 0, 0);   /* drive 0 is named twice: none is given anything */
     for (int second = 1; second <= 80; second++) {      /* a host waits for its clock */
         if (second == 45)
             give(middle, 1, DAMPER_KIND_FORCING, DAMPER_FORCING_NONE, 0, 0);

@@ -27,6 +27,10 @@ const SENT: &str = "Model::report(drive, status);
             drive.wait = 0;";
 const HELD: &str = "drive.wait = drive.wait.saturating_add(1);";
 const QUOTA_OUTSIDE: &str = "quota == 0 || quota > 64";
+const TWICE: &str = "if fewer_drives_than_entries(list) {";
+const NAMED: &str = "named | 1 << number";
+/// A number that the wrong hall takes and a set of drives does not.
+const NAMED_ANEW: &str = "named | 1 << (number % 64)";
 const IS_BAD: &str = "number as usize >= drives";
 const REPORT: &str = "65_536 + 256 * u32::from(position) + u32::from(status.0)";
 const PAGE: &str = "for ((number, drive), line) in row.iter().enumerate().zip(page.chunks_exact_mut(LINE)) {";
@@ -59,17 +63,29 @@ pub const EDITS: &[Edit] = &[
     // Drives numbered from 1.
     edit(
         "NumberedFrom1",
-        &[(IS_BAD, "number == 0 || number as usize > drives"), (LISTED, "row[number as usize - 1]")],
+        &[
+            (IS_BAD, "number == 0 || number as usize > drives"),
+            (NAMED, "named | 1 << (number - 1)"),
+            (LISTED, "row[number as usize - 1]"),
+        ],
     ),
     // The number cut to a byte: 263 is drive 7.
     edit(
         "NumberCutToByte",
-        &[(IS_BAD, "number as u8 as usize >= drives"), (LISTED, "row[number as u8 as usize]")],
+        &[
+            (IS_BAD, "number as u8 as usize >= drives"),
+            (NAMED, "named | 1 << (*number as u8)"),
+            (LISTED, "row[number as u8 as usize]"),
+        ],
     ),
     // The same, to 16 bits.
     edit(
         "NumberCutTo16Bits",
-        &[(IS_BAD, "number as u16 as usize >= drives"), (LISTED, "row[number as u16 as usize]")],
+        &[
+            (IS_BAD, "number as u16 as usize >= drives"),
+            (NAMED, "named | 1 << (*number as u16)"),
+            (LISTED, "row[number as u16 as usize]"),
+        ],
     ),
     // The last drive left out of a tick.
     edit(
@@ -93,18 +109,6 @@ pub const EDITS: &[Edit] = &[
     edit("FirstDriveToo", &[("for (&number", "Model::give(&mut row[0], event); for (&number")]),
     // A list ends at the first drive that refuses.
     edit("ListEndsAtRefusal", &[(GIVEN, "row[number as usize], event)); if *answer != 0 { break; }")]),
-    // A drive listed twice is given the event once, and its second place is left out.
-    edit(
-        "RepeatSkipped",
-        &[(
-            GIVE,
-            "let mut given = [false; MOST];
-            for (&number, answer) in list.iter().zip(answers) {
-                if std::mem::replace(&mut given[number as usize], true) {
-                    continue;
-                }",
-        )],
-    ),
     // A tick ends at the first drive that is not well formed.
     edit("TickEndsAtBroken", &[(NOT_WELL_FORMED, "Err(_) => { *number = 1; break; }")]),
     // A drive that is not well formed is ticked: its since rises.
@@ -143,6 +147,7 @@ pub const EDITS: &[Edit] = &[
         "ScanOfFirst",
         &[
             ("list.iter().any(", "list.iter().take(1).any("),
+            (NAMED, NAMED_ANEW),
             ("for (&number", "let drives = row.len(); for (&number"),
             (LISTED, "row[number as usize % drives]"),
         ],
@@ -156,9 +161,12 @@ pub const EDITS: &[Edit] = &[
     // Each limit by one.
     edit("RowOf0Taken", &[("drives == 0 || drives > MOST", "drives > MOST")]),
     edit("RowOf64Refused", &[("drives > MOST", "drives >= MOST")]),
-    edit("RowOf65Taken", &[("drives > MOST", "drives > MOST + 1"), (ADVANCE, ADVANCE_AT_MOST_64)]),
+    edit(
+        "RowOf65Taken",
+        &[("drives > MOST", "drives > MOST + 1"), (ADVANCE, ADVANCE_AT_MOST_64), (NAMED, NAMED_ANEW)],
+    ),
     edit("ListOf64Refused", &[("list.len() > MOST", "list.len() >= MOST")]),
-    edit("ListOf65Given", &[("list.len() > MOST", "list.len() > MOST + 1")]),
+    edit("ListOf65Taken", &[("list.len() > MOST", "list.len() > MOST + 1")]),
     edit("AnswersEqualRefused", &[("places < list.len()", "places <= list.len()")]),
     edit("NumbersEqualRefused", &[("places < drives", "places <= drives")]),
     // A short answer row is filled as far as it goes.
@@ -170,12 +178,258 @@ pub const EDITS: &[Edit] = &[
         &[
             ("drives == 0 || drives > MOST", "drives as u8 == 0 || drives as u8 > 64"),
             (ADVANCE, ADVANCE_AT_MOST_64),
+            (NAMED, NAMED_ANEW),
             (PRINTED, PRINTED_IN_PART),
         ],
     ),
     edit("ListCutToByte", &[("list.len() > MOST", "list.len() as u8 > 64")]),
     edit("AnswersCutToByte", &[("places < list.len()", "(places as u8 as usize) < list.len()")]),
     edit("NumbersCutToByte", &[("places < drives", "(places as u8 as usize) < drives")]),
+    // When a list names a drive twice
+
+    // The event is given twice.
+    edit("RepeatsGiven", &[(TWICE, "if false {")]),
+    // It is given once, and the second place is left out.
+    edit(
+        "RepeatSkipped",
+        &[
+            (TWICE, "if false {"),
+            (
+                GIVE,
+                "let mut given = [false; MOST];
+                for (&number, answer) in list.iter().zip(answers) {
+                    if std::mem::replace(&mut given[number as usize], true) {
+                        continue;
+                    }",
+            ),
+        ],
+    ),
+    // 19 is the answer of each entry that names the drive, and the others are given the event.
+    edit(
+        "RepeatsAnswered",
+        &[
+            (TWICE, "if false {"),
+            (
+                GIVING,
+                "let named = list.iter().filter(|&&other| other == number).count();
+                *answer = match named {
+                    1 => answer_number(Model::give(&mut row[number as usize], event)),
+                    _ => 19,
+                };",
+            ),
+        ],
+    ),
+    // 19 is the answer of its second place alone.
+    edit(
+        "SecondAnswered",
+        &[
+            (TWICE, "if false {"),
+            (
+                GIVE,
+                "let mut given = [false; MOST];
+                for (&number, answer) in list.iter().zip(answers) {
+                    if std::mem::replace(&mut given[number as usize], true) {
+                        *answer = 19;
+                        continue;
+                    }",
+            ),
+        ],
+    ),
+    edit("RepeatsBy16", &[("return 19;", "return 16;")]),
+    edit("RepeatsBy15", &[("return 19;", "return 15;")]),
+    // Where it is looked for: among neighbours, the first entry in the rest, the last in the rest, the first
+    // and the last, all but neighbours.
+    edit("NeighboursCompared", &[(TWICE, "if list.windows(2).any(|pair| pair[0] == pair[1]) {")]),
+    edit("FirstLookedFor", &[(TWICE, "if list.iter().skip(1).any(|&number| number == list[0]) {")]),
+    edit(
+        "LastLookedFor",
+        &[(TWICE, "if list.iter().rev().skip(1).any(|number| list.last() == Some(number)) {")],
+    ),
+    edit("EndsCompared", &[(TWICE, "if list.len() > 1 && list.first() == list.last() {")]),
+    edit("NeighboursLeftOut", &[(TWICE, "if (2..list.len()).any(|k| list[..k - 1].contains(&list[k])) {")]),
+    // What is left out: the first entry, the last, those behind the 32nd, a full list, a list of two.
+    edit("FirstLeftOut", &[(TWICE, "if fewer_drives_than_entries(list.get(1..).unwrap_or_default()) {")]),
+    edit("LastLeftOut", &[(TWICE, "if fewer_drives_than_entries(&list[..list.len().saturating_sub(1)]) {")]),
+    edit("LookedUpTo32", &[(TWICE, "if fewer_drives_than_entries(&list[..list.len().min(32)]) {")]),
+    edit("FullListLeftOut", &[(TWICE, "if list.len() < MOST && fewer_drives_than_entries(list) {")]),
+    edit("ListOf2LeftOut", &[(TWICE, "if list.len() != 2 && fewer_drives_than_entries(list) {")]),
+    // A hall of one, drive 0, the last drive, and those from 32 on.
+    edit("RowOf1LeftOut", &[(TWICE, "if drives > 1 && fewer_drives_than_entries(list) {")]),
+    edit(
+        "Drive0LeftOut",
+        &[(TWICE, "if (1..list.len()).any(|k| list[k] != 0 && list[..k].contains(&list[k])) {")],
+    ),
+    edit(
+        "LastDriveLeftOut",
+        &[(
+            TWICE,
+            "if (1..list.len()).any(|k| list[k] as usize + 1 != drives && list[..k].contains(&list[k])) {",
+        )],
+    ),
+    edit(
+        "DrivesFrom32LeftOut",
+        &[(TWICE, "if (1..list.len()).any(|k| list[k] < 32 && list[..k].contains(&list[k])) {")],
+    ),
+    // Three times is needed, or two entries too many.
+    edit(
+        "ThreeTimesNeeded",
+        &[(TWICE, "if list.iter().any(|number| list.iter().filter(|other| *other == number).count() > 2) {")],
+    ),
+    edit(
+        "TwoOverNeeded",
+        &[("(named.count_ones() as usize) < list", "(named.count_ones() as usize) + 1 < list")],
+    ),
+    // Lists without repeats are refused: by the numbers' low five bits, where 0 and 32 are one, by their
+    // lowest bit, for an order that does not ascend, an empty one, one entry, a full list.
+    edit("ComparedBy5Bits", &[(NAMED, "named | 1 << (number & 31)")]),
+    edit("ComparedByLowestBit", &[(NAMED, "named | 1 << (number & 1)")]),
+    edit("AscendingAsked", &[(TWICE, "if list.windows(2).any(|pair| pair[0] >= pair[1]) {")]),
+    edit("EmptyListByTwice", &[(TWICE, "if list.is_empty() || fewer_drives_than_entries(list) {")]),
+    edit("OneEntryByTwice", &[(TWICE, "if list.len() == 1 || fewer_drives_than_entries(list) {")]),
+    edit("FullListByTwice", &[(TWICE, "if list.len() == MOST || fewer_drives_than_entries(list) {")]),
+    // 19 before 14, before 15 and before 16.
+    edit(
+        "TwiceBeforeRow",
+        &[(
+            "return 14;",
+            "return if (1..list.len()).any(|k| list[..k].contains(&list[k])) { 19 } else { 14 };",
+        )],
+    ),
+    edit(
+        "TwiceBeforeNumber",
+        &[(
+            "return 15;",
+            "return if (1..list.len()).any(|k| list[..k].contains(&list[k])) { 19 } else { 15 };",
+        )],
+    ),
+    edit(
+        "TwiceBeforeCall",
+        &[("return 16;", "return if fewer_drives_than_entries(list) { 19 } else { 16 };")],
+    ),
+    // Before one of the three of 16: an accepted tick, over 64 entries, a short answer row.
+    edit(
+        "TwiceBeforeTick",
+        &[(
+            "return 16;",
+            "let others = list.len() > MOST || places < list.len();
+            return if !others && fewer_drives_than_entries(list) { 19 } else { 16 };",
+        )],
+    ),
+    edit("TwiceForOver64", &[("return 16;", "return if !tick && places >= list.len() { 19 } else { 16 };")]),
+    edit(
+        "TwiceBeforePlaces",
+        &[(
+            "return 16;",
+            "let others = tick || list.len() > MOST;
+            return if !others && fewer_drives_than_entries(list) { 19 } else { 16 };",
+        )],
+    ),
+    // Only for an event that the reader accepts, a calibration, one that a drive so named accepts, one that
+    // changes it.
+    edit(
+        "TwiceIfRead",
+        &[(
+            JUDGED_EVENT,
+            "answers.len()); let refusal = if refusal == 19 && event.is_err() { 0 } else { refusal };",
+        )],
+    ),
+    edit(
+        "TwiceIfCalibration",
+        &[(
+            JUDGED_EVENT,
+            "answers.len());
+            let refusal = if refusal == 19 && event != Ok(Event::Calibration) { 0 } else { refusal };",
+        )],
+    ),
+    edit(
+        "TwiceIfAccepted",
+        &[(
+            JUDGED_EVENT,
+            "answers.len());
+            let accepted = |k: usize| {
+                let mut drive = row[list[k] as usize];
+                list[..k].contains(&list[k]) && answer_number(Model::give(&mut drive, event)) == 0
+            };
+            let refusal = if refusal == 19 && !(0..list.len()).any(accepted) { 0 } else { refusal };",
+        )],
+    ),
+    edit(
+        "TwiceIfChanged",
+        &[(
+            JUDGED_EVENT,
+            "answers.len());
+            let changed = |k: usize| {
+                let mut drive = row[list[k] as usize];
+                Model::give(&mut drive, event);
+                list[..k].contains(&list[k]) && drive != row[list[k] as usize]
+            };
+            let refusal = if refusal == 19 && !(0..list.len()).any(changed) { 0 } else { refusal };",
+        )],
+    ),
+    // Found after the entries before it: their drives and answers are changed, or the drives alone, or the
+    // answers alone.
+    edit(
+        "TwiceAfterGiving",
+        &[(
+            JUDGED_EVENT,
+            "answers.len());
+            if refusal == 19 {
+                for k in (0..list.len()).take_while(|&k| !list[..k].contains(&list[k])) {
+                    answers[k] = answer_number(Model::give(&mut row[list[k] as usize], event));
+                }
+            }",
+        )],
+    ),
+    edit(
+        "TwiceAfterDrives",
+        &[(
+            JUDGED_EVENT,
+            "answers.len());
+            if refusal == 19 {
+                for k in (0..list.len()).take_while(|&k| !list[..k].contains(&list[k])) {
+                    Model::give(&mut row[list[k] as usize], event);
+                }
+            }",
+        )],
+    ),
+    edit(
+        "TwiceAfterAnswers",
+        &[(
+            JUDGED_EVENT,
+            "answers.len());
+            if refusal == 19 {
+                for k in (0..list.len()).take_while(|&k| !list[..k].contains(&list[k])) {
+                    answers[k] = answer_number(Model::give(&mut { row[list[k] as usize] }, event));
+                }
+            }",
+        )],
+    ),
+    // Refused, with the event given to each drive once.
+    edit(
+        "TwiceGivenOnce",
+        &[(
+            JUDGED_EVENT,
+            "answers.len());
+            if refusal == 19 {
+                for k in (0..list.len()).filter(|&k| !list[..k].contains(&list[k])) {
+                    Model::give(&mut row[list[k] as usize], event);
+                }
+            }",
+        )],
+    ),
+    edit("TwiceAnswersCleared", &[(JUDGED_EVENT, "answers.len()); if refusal == 19 { answers.fill(0); }")]),
+    // 19 in the place of the second entry of the drive.
+    edit(
+        "TwiceMarked",
+        &[(
+            JUDGED_EVENT,
+            "answers.len());
+            if refusal == 19 {
+                let second = (0..list.len()).find(|&k| list[..k].contains(&list[k])).unwrap();
+                answers[second] = 19;
+            }",
+        )],
+    ),
     // What a refused call leaves
 
     // The event of a call refused by 16 is given after all.

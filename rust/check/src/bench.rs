@@ -53,7 +53,7 @@ pub fn spend(who: &str, what: &str, n: usize) {
 }
 
 fn spend_on_halls(who: &str, what: &str, n: usize) {
-    let (mut rows, list, events) = (lived(4), any_order(), listed_events());
+    let (mut rows, list, events) = (lived(4), scattered(), listed_events());
     let (mut numbers, mut answers, mut page) = ([0; HALL_MOST], [0; HALL_MOST], [0; HALL_MOST * LINE]);
     let hall: &dyn Hall = match who {
         "proved" => &Proved,
@@ -175,8 +175,8 @@ fn listed_events() -> Vec<[u8; 6]> {
     events.filter(|bytes| Event::from_bytes(bytes) != Ok(Event::Tick)).collect()
 }
 
-/// The drives of a hall in another order.
-fn any_order() -> [u32; HALL_MOST] {
+/// The drives of a hall, each once, in another order.
+fn scattered() -> [u32; HALL_MOST] {
     std::array::from_fn(|i| (i as u32 * 37 + 11) % 64)
 }
 
@@ -258,10 +258,13 @@ fn quotas() {
 fn halls() {
     quotas();
     let first = lived(HALLS);
-    let (list, events) = (any_order(), listed_events());
-    same(&on_halls("event to a list of 64", &first, HALL_MOST, 1, |hall, count, row, answers| {
-        hall.event(row, &list, &events[count % events.len()], answers)
-    }));
+    let (in_order, events) = (std::array::from_fn(|i| i as u32), listed_events());
+    for (order, list) in [("in order", in_order), ("scattered", scattered())] {
+        let what = format!("event to a list of 64, {order}");
+        same(&on_halls(&what, &first, HALL_MOST, 1, |hall, count, row, answers| {
+            hall.event(row, &list, &events[count % events.len()], answers)
+        }));
+    }
     // The second implementation's by Rust's formatting.
     for size in [HALL_MOST, 1] {
         let what = format!("shift page of {size}");

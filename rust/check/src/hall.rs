@@ -1,5 +1,6 @@
 //! The hall of document 02's W-201 with the quota of its W-204: drives in one row, worked on where they
-//! stand, each by the drive of `model`. The shift page is its W-203.
+//! stand, each by the drive of `model`. The shift page is its W-203, and its W-205 refuses a list
+//! that names a drive twice.
 
 use crate::event::Event;
 use crate::model::{position_to_percent, Model};
@@ -175,7 +176,8 @@ fn forbidden(row: &[Drive], due: Drives, quota: u32, sent: Drives) -> Option<&'s
     None
 }
 
-/// 0, or the first that fits an event call: "14 to 16 come before 1 to 13, in this order".
+/// 0, or the first that fits an event call: "14 to 16 come before 1 to 13, in this order", and 19 is "checked
+/// after 16, nothing touched".
 fn judge_event(drives: usize, list: &[u32], tick: bool, places: usize) -> u8 {
     if outside_1_to_64(drives) {
         return 14;
@@ -189,7 +191,18 @@ fn judge_event(drives: usize, list: &[u32], tick: bool, places: usize) -> u8 {
     if tick || list.len() > MOST || places < list.len() {
         return 16;
     }
+    // "19 when a list names a drive twice"
+    if fewer_drives_than_entries(list) {
+        return 19;
+    }
     0
+}
+
+/// One number stands at two places of a list, wherever they are, when the list names fewer drives than it has
+/// entries. Each number is below 64.
+fn fewer_drives_than_entries(list: &[u32]) -> bool {
+    let named = list.iter().fold(0, |named: Drives, number| named | 1 << number);
+    (named.count_ones() as usize) < list.len()
 }
 
 /// 0, or the first that fits a hall tick: "18 when the quota is outside 1 to 64, after 16 and before any

@@ -154,8 +154,8 @@ impl<'h, H: Hall + ?Sized> Pair<'h, H> {
             cover.event(&before, (list, bytes, places), (expected, answers), self.row());
         }
         let mut breach = Breach::default();
-        // "a hall call refused itself belongs to no share". No event but a tick moves a drive, so the
-        // position after the call is that after each of its turns.
+        // "a hall call refused itself belongs to no share". A listed drive has one turn, and its position
+        // after the call is that after the turn.
         if self.ask != Ask::Equality && number == 0 {
             for (&place, &answer) in list.iter().zip(&tested[..places]) {
                 if let Some(Some(share)) = self.shares.get_mut(place as usize) {

@@ -1,7 +1,7 @@
 //! A second implementation of the damper drive of document 01, with document 02's hall (W-201), percents
-//! (W-202), shift page (W-203) and quota (W-204), written from the papers without sight of the proved code,
-//! and the runs that set another implementation (a `Subject`, a `Hall`) against it. Of the shift page, what
-//! the C header and the crate `damper` say to a host had been read too.
+//! (W-202), shift page (W-203), quota (W-204) and refusal of repeats (W-205), written from the papers without
+//! sight of the proved code, and the runs that set another implementation (a `Subject`, a `Hall`) against it.
+//! Of the shift page, what the C header and the crate `damper` say to a host had been read too.
 //!
 //! The second implementation is `table`, `event` and `model`, and `hall` over them; it shares with a host's
 //! crate `damper` the types of the drive record and of the answer, and no rule. `check` stands apart: it

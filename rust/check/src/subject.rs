@@ -17,9 +17,9 @@ pub trait Subject {
     fn write(&self, buffer: &mut [u8], fields: [u8; 4]) -> Result<(), Refusal>;
 }
 
-/// A hall of drives in one row. Each call answers 0 or its refusal, 14 to 18.
+/// A hall of drives in one row. Each call answers 0 or its refusal, 14 to 19.
 pub trait Hall {
-    /// The bytes to the listed drives, a number for each entry.
+    /// The bytes to the listed drives, a number for each entry: 0, 14, 15, 16 or 19.
     fn event(&self, row: &mut [Drive], list: &[u32], bytes: &[u8], answers: &mut [u8]) -> u8;
 
     /// A tick to every drive with at most `quota` reports, a number for each drive: 0, 14, 16 or 18.

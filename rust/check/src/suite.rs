@@ -21,7 +21,7 @@ const CATCH_WITHIN: u64 = 300_000;
 /// Calls for each wrong hall.
 const CATCH_HALL_WITHIN: u64 = 100_000;
 /// Events on lists for each hall call.
-const EVENTS_A_CALL: u64 = 10;
+const EVENTS_A_CALL: u64 = 8;
 
 /// True if all pass. Each seed gets this many events on lists and single steps.
 pub fn run<S: Subject + Hall + ?Sized>(subject: &S, events: u64, steps: u64, seeds: &[u64]) -> bool {

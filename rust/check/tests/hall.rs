@@ -1,9 +1,9 @@
-//! The hall of document 02's W-201, the shift page of its W-203 and the quota of its W-204: their corners by
-//! hand, on the proved hall and on the second implementation, and the comparison of the two in short.
+//! The hall of document 02's W-201, the shift page of its W-203, the quota of its W-204 and the lists that its
+//! W-205 refuses: their corners by hand, on the proved hall and on the second implementation, and the
+//! comparison of the two in short.
 
 use damper::{Answer, Commands, Drive, Last, Rank, Run};
 use damper_check::check::{Checker, Clause, Turn};
-use damper_check::event::Event;
 use damper_check::gen::Gen;
 use damper_check::hall::{numbers_of, tick_sending, Drives, HallModel, LINE};
 use damper_check::halls::cover::HallCover;
@@ -15,7 +15,7 @@ use damper_check::subject::{Hall, Subject};
 use damper_check::table::Param;
 
 const BOTH: [&dyn Hall; 2] = [&Proved, &HallModel];
-/// With the plain C hall, for pages and quotas.
+/// With the plain C hall, for pages, quotas and repeats.
 const THREE: [&dyn Hall; 3] = [&Proved, &HallModel, &Plain];
 
 const TICK: [u8; 6] = [0x5A, 0xC3, 1, 0, 0, 0];
@@ -25,6 +25,8 @@ const READ: [u8; 6] = [0x5A, 0xC3, 10, 0, 0, 0];
 const RATE_7: [u8; 6] = [0x5A, 0xC3, 8, 203, 0, 7];
 const MIN_REP_TIME_1: [u8; 6] = [0x5A, 0xC3, 8, 117, 0, 1];
 const RESTART: [u8; 6] = [0x5A, 0xC3, 9, 0, 0, 0];
+
+const NO_RUN: Run = Run { kind: 0, left: 0 };
 
 /// A record that is not well formed.
 fn broken() -> Drive {
@@ -100,10 +102,10 @@ fn calls_that_do_not_fit() {
     for hall in BOTH {
         assert_eq!(refused(hall, 3, &[], &TICK, 0), 16);
         assert_eq!(refused(hall, 3, &[0], &TICK, 1), 16);
-        assert_eq!(event(hall, 3, &[1; 64], &SETPOINT, 64).0, 0);
+        assert_eq!(event(hall, 64, &in_order(64), &SETPOINT, 64).0, 0);
         assert_eq!(refused(hall, 3, &[1; 65], &SETPOINT, 65), 16);
         assert_eq!(refused(hall, 3, &[1; 257], &SETPOINT, 257), 16);
-        assert_eq!(refused(hall, 3, &[1; 2], &SETPOINT, 1), 16);
+        assert_eq!(refused(hall, 3, &[1, 2], &SETPOINT, 1), 16);
         assert_eq!(refused(hall, 3, &[1], &SETPOINT, 0), 16);
         for drives in [1, 3, 64] {
             let (mut row, mut numbers) = (vec![Model.fresh(); drives], vec![7; drives - 1]);
@@ -167,23 +169,25 @@ fn empty_list() {
     }
 }
 
-/// Three drives, one of them not well formed, one listed twice, a refused call between.
+/// Three drives, one of them not well formed, refused calls between.
 #[test]
 fn a_hall_of_three() {
     for hall in BOTH {
         let mut row = [Model.fresh(), broken(), Model.fresh()];
         let mut answers = [0xEE; 5];
-        assert_eq!(hall.event(&mut row, &[2, 1, 2, 0], &CALIBRATION, &mut answers), 0);
-        assert_eq!(answers, [0, 1, 0, 0, 0xEE]);
+        assert_eq!(hall.event(&mut row, &[2, 1, 0], &CALIBRATION, &mut answers), 0);
+        assert_eq!(answers, [0, 1, 0, 0xEE, 0xEE]);
         assert_eq!((row[0].run, row[1], row[2]), (Run { kind: 1, left: 51 }, broken(), row[0]));
 
         let mut answers = [0xEE; 5];
         assert_eq!(hall.event(&mut row, &[0, 3], &RATE_7, &mut answers), 15);
         assert_eq!(answers, [0xEE; 5]);
-        assert_eq!(hall.event(&mut row, &[2, 2, 1], &RATE_7, &mut answers), 0);
-        assert_eq!(answers, [12, 12, 1, 0xEE, 0xEE]);
+        assert_eq!(hall.event(&mut row, &[2, 2, 1], &RATE_7, &mut answers), 19);
+        assert_eq!(answers, [0xEE; 5]);
+        assert_eq!(hall.event(&mut row, &[2, 1], &RATE_7, &mut answers), 0);
+        assert_eq!(answers, [12, 1, 0xEE, 0xEE, 0xEE]);
         assert_eq!(hall.event(&mut row, &[0], &READ, &mut answers), 0);
-        assert_eq!(answers, [0, 12, 1, 0xEE, 0xEE]);
+        assert_eq!(answers, [0, 1, 0xEE, 0xEE, 0xEE]);
         assert_eq!(hall.event(&mut row, &[0], &MIN_REP_TIME_1, &mut answers), 0);
 
         let mut numbers = [7; 4];
@@ -212,16 +216,163 @@ fn tick_numbers() {
     }
 }
 
-/// Of the events other than a tick, none leaves or answers anything else when it is given a second time.
+/// The drives 0 to n - 1.
+fn in_order(n: u32) -> Vec<u32> {
+    (0..n).collect()
+}
+
+/// "19 when a list names a drive twice, checked after 16, nothing touched"
 #[test]
-fn a_second_giving_adds_nothing() {
-    let mut gen = Gen::new(9);
-    for _ in 0..500_000 {
-        let record = gen.any_record().1;
-        let bytes = gen.listed(&record);
-        let once = Model.step(&record, bytes.as_slice());
-        assert_eq!(Model.step(&once.1, bytes.as_slice()), once, "{bytes:?} on {record:?}");
-        assert_ne!(Event::from_bytes(bytes.as_slice()), Ok(Event::Tick));
+fn a_drive_named_twice() {
+    for hall in THREE {
+        for list in [&[7, 7][..], &[7, 3, 7], &[3, 7, 7], &[7, 7, 3], &[0, 7, 3, 0], &[1, 2, 3, 2, 4]] {
+            for bytes in [&SETPOINT[..], &CALIBRATION, &READ, &RESTART, &TICK[..5], &[]] {
+                for places in [list.len(), list.len() + 1, 64, 300] {
+                    assert_eq!(refused(hall, 8, list, bytes, places), 19);
+                    assert_eq!(refused(hall, 64, list, bytes, places), 19);
+                }
+            }
+        }
+        assert_eq!(refused(hall, 1, &[0, 0], &SETPOINT, 2), 19);
+        // 64 entries on three drives.
+        let on_three: Vec<_> = (0..64).map(|k| [5, 63, 0][k % 3]).collect();
+        assert_eq!(refused(hall, 64, &on_three, &SETPOINT, 64), 19);
+        assert_eq!(refused(hall, 1, &[0; 64], &SETPOINT, 64), 19);
+        // A calibration that is not begun.
+        let (number, row, _) = event(hall, 8, &[7, 3, 7], &CALIBRATION, 3);
+        assert_eq!((number, row[7].run, row[3].run), (19, NO_RUN, NO_RUN));
+        let (number, row, _) = event(hall, 8, &[7, 3], &CALIBRATION, 3);
+        assert_eq!((number, row[7].run, row[3].run), (0, Run { kind: 1, left: 51 }, row[7].run));
+    }
+}
+
+/// Any two of the entries, in lists of each length, and no other two.
+#[test]
+fn one_pair_of_entries() {
+    let mut gen = Gen::new(11);
+    for hall in THREE {
+        for entries in 2..=64 {
+            let list = some_order(&mut gen, 64, entries);
+            assert_eq!(event(hall, 64, &list, &SETPOINT, entries).0, 0);
+            for again in 1..entries {
+                for place in 0..again {
+                    let mut list = list.clone();
+                    list[again] = list[place];
+                    assert_eq!(refused(hall, 64, &list, &SETPOINT, entries), 19, "{list:?}");
+                }
+            }
+        }
+    }
+}
+
+/// 14, 15 and 16 come before 19, and what a drive says comes after it.
+#[test]
+fn a_drive_named_twice_beside_others() {
+    for hall in THREE {
+        for list in [&[1, 1][..], &[1, 0, 1], &[0, 1, 1], &[1; 64]] {
+            let places = list.len();
+            for drives in [0, 65, 66, 256, 320] {
+                assert_eq!(refused(hall, drives, list, &SETPOINT, places), 14);
+            }
+            // A bad number beside the repeat, and as the repeat.
+            assert_eq!(refused(hall, 2, &[list, &[2]].concat(), &SETPOINT, places + 1), 15);
+            assert_eq!(refused(hall, 2, &[&[263], list].concat(), &SETPOINT, places + 1), 15);
+            assert_eq!(refused(hall, 1, list, &SETPOINT, places), 15);
+            // An accepted tick, a short answer row.
+            assert_eq!(refused(hall, 2, list, &TICK, places), 16);
+            assert_eq!(refused(hall, 2, list, &SETPOINT, places - 1), 16);
+            assert_eq!(refused(hall, 2, list, &SETPOINT, 0), 16);
+            assert_eq!(refused(hall, 2, list, &TICK, 0), 16);
+            assert_eq!(refused(hall, 2, list, &SETPOINT, places), 19);
+            // Drives that refuse by 1, and bytes that all refuse.
+            let (mut row, mut answers) = ([broken(); 2], [0xEE; 64]);
+            for bytes in [&SETPOINT[..], &[0; 6], &[]] {
+                assert_eq!(hall.event(&mut row, list, bytes, &mut answers), 19);
+                assert_eq!((row, answers), ([broken(); 2], [0xEE; 64]));
+            }
+        }
+        // 65 entries, of which one alone repeats, and 300.
+        for list in [[in_order(64), vec![0]].concat(), [vec![63], in_order(64)].concat(), vec![0; 300]] {
+            assert_eq!(refused(hall, 64, &list, &SETPOINT, list.len()), 16);
+        }
+    }
+}
+
+/// Nothing and a single number are no repeat, nor are numbers that agree in some of their bits.
+#[test]
+fn lists_without_repeats() {
+    for hall in THREE {
+        for drives in [1, 2, 64] {
+            assert_eq!(event(hall, drives, &[], &SETPOINT, 0).0, 0);
+            for number in 0..drives as u32 {
+                assert_eq!(event(hall, drives, &[number], &SETPOINT, 1).0, 0);
+            }
+        }
+        for one in 0..64 {
+            for other in (0..64).filter(|other| *other != one) {
+                let (number, row, answers) = event(hall, 64, &[one, other], &SETPOINT, 2);
+                assert_eq!((number, answers), (0, vec![0, 0]));
+                let given = |i: &u32| row[*i as usize].commands.stored == 1;
+                assert!((0..64).filter(given).eq([one.min(other), one.max(other)]));
+            }
+        }
+    }
+}
+
+/// So many of the drives of a row, each once, in any order.
+fn some_order(gen: &mut Gen, drives: u32, entries: usize) -> Vec<u32> {
+    let mut list = shuffled(gen, &in_order(drives));
+    list.truncate(entries);
+    list
+}
+
+fn shuffled(gen: &mut Gen, list: &[u32]) -> Vec<u32> {
+    let mut list = list.to_vec();
+    for k in (1..list.len()).rev() {
+        list.swap(k, gen.rng.below(k as u32 + 1) as usize);
+    }
+    list
+}
+
+/// All orders of a list.
+fn orders(list: &[u32]) -> Vec<Vec<u32>> {
+    if list.is_empty() {
+        return vec![Vec::new()];
+    }
+    let without = |k: usize| [&list[..k], &list[k + 1..]].concat();
+    let first = |k: usize| orders(&without(k)).into_iter().map(move |rest| [&list[k..=k], &rest].concat());
+    (0..list.len()).flat_map(first).collect()
+}
+
+/// Of a list without repeats every order leaves the same row: each named drive is what the event makes of its
+/// record from before the call, the others are as they were, and each answer is that of this single event.
+#[test]
+fn the_order_of_a_list() {
+    let mut gen = Gen::new(12);
+    for round in 0..600 {
+        let drives = if round % 4 == 0 { 64 } else { 1 + gen.rng.below(64) };
+        let before: Vec<_> = (0..drives).map(|_| gen.any_record().1).collect();
+        let entries = 1 + gen.rng.below(if round % 2 == 0 { drives.min(5) } else { drives }) as usize;
+        let list = some_order(&mut gen, drives, entries);
+        let any_orders = |gen: &mut Gen| (0..20).map(|_| shuffled(gen, &list)).collect();
+        let lists = if entries <= 5 { orders(&list) } else { any_orders(&mut gen) };
+        let bytes = gen.listed(&before[list[0] as usize]);
+        let single = |number: u32| Model.step(&before[number as usize], bytes.as_slice());
+        let expected: Vec<_> =
+            (0..drives).map(|i| if list.contains(&i) { single(i).1 } else { before[i as usize] }).collect();
+        for (list, hall) in lists.iter().flat_map(|list| THREE.map(|hall| (list, hall))) {
+            let (mut row, mut answers) = (before.clone(), vec![0xEE; entries + 1]);
+            assert_eq!(hall.event(&mut row, list, bytes.as_slice(), &mut answers), 0);
+            assert_eq!(row, expected, "{list:?}");
+            for (&number, answer) in list.iter().zip(&answers) {
+                let refusal = match single(number).0 {
+                    Answer::Refused(refusal) => refusal.number(),
+                    _ => 0,
+                };
+                assert_eq!(*answer, refusal, "{list:?}");
+            }
+            assert_eq!(answers[entries], 0xEE);
+        }
     }
 }
 
@@ -229,18 +380,22 @@ fn a_second_giving_adds_nothing() {
 #[test]
 fn refused_calls_belong_to_no_share() {
     for hall in BOTH {
-        let (mut share, mut with_refused) = (Checker::from_fresh(), Checker::from_fresh());
+        let [mut share, mut with_refused, mut with_repeat] = [(); 3].map(|()| Checker::from_fresh());
         let mut row = [Model.fresh()];
         assert_eq!(hall.event(&mut row, &[0], &SETPOINT, &mut [0]), 0);
         assert!(share.heard(&SETPOINT, None, None, row[0].position).none());
         assert!(with_refused.heard(&SETPOINT, None, None, row[0].position).none());
+        assert!(with_repeat.heard(&SETPOINT, None, None, row[0].position).none());
 
+        assert_eq!(hall.event(&mut row, &[0, 0], &CALIBRATION, &mut [0; 2]), 19);
+        assert!(with_repeat.heard(&CALIBRATION, None, None, row[0].position).none());
         assert_eq!(hall.tick(&mut row, 1, &mut []), 16);
         assert_eq!(hall.tick(&mut row, 0, &mut [0]), 18);
         assert!(with_refused.hall_tick(false, None, row[0].position, false, 1).has(Clause::Move));
 
         assert_eq!(hall.tick(&mut row, 1, &mut [0]), 0);
         assert!(share.hall_tick(false, None, row[0].position, false, 1).none());
+        assert!(with_repeat.hall_tick(false, None, row[0].position, false, 1).has(Clause::Move));
     }
 }
 
@@ -806,8 +961,10 @@ fn pages_refused() {
 #[test]
 fn short_comparison() {
     for seed in 1..4 {
-        let compared = halls(&Proved, seed, 50_000, &mut HallCover::default());
-        assert!(compared.map_err(|finding| panic!("{finding}")).is_ok());
+        for hall in [&Proved as &dyn Hall, &Plain] {
+            let compared = halls(hall, seed, 50_000, &mut HallCover::default());
+            assert!(compared.map_err(|finding| panic!("{finding}")).is_ok());
+        }
     }
 }
 
@@ -821,7 +978,15 @@ fn wrong_halls_are_caught() {
 /// Demand 3 of the shares finds these by itself.
 #[test]
 fn shares_break_demand_3() {
-    for name in ["PlaceForNumber", "LastDriveSkipped", "RefusedEventGiven", "PositionAndStatusExchanged"] {
+    for name in [
+        "PlaceForNumber",
+        "LastDriveSkipped",
+        "RefusedEventGiven",
+        "RepeatSkipped",
+        "TwiceAfterGiving",
+        "TwiceGivenOnce",
+        "PositionAndStatusExchanged",
+    ] {
         let wrong = wrong::ALL.iter().find(|wrong| wrong.name == name).unwrap();
         assert!(wrong::catch(wrong.hall, 1, 20_000).by_demand_3.is_some(), "{name}");
     }

@@ -36,6 +36,7 @@ counters! {
     event_14: "event call refused by 14",
     event_15: "event call refused by 15",
     event_16: "event call refused by 16",
+    event_19: "event call refused by 19",
     tick_14: "hall tick refused by 14",
     tick_16: "hall tick refused by 16",
     tick_18_none: "hall tick refused by 18, quota 0",
@@ -63,8 +64,24 @@ counters! {
     empty_list: "empty list answered 0",
     list_of_64: "list of 64 given",
     list_of_65: "list of 65 refused by 16",
-    twice: "drive listed twice",
-    twice_changed: "drive listed twice and changed",
+    twice_neighbours: "19 for neighbours alone",
+    twice_ends: "19 for the first and the last of three or more entries alone",
+    twice_not_first: "19, the first entry named once",
+    twice_at_last: "19 for the last entry and another alone",
+    twice_inside: "19, the first and the last entry named once",
+    twice_behind_32: "19, the first 32 entries without repeats",
+    twice_in_64: "19 for a single pair in 64 entries",
+    twice_on_three: "19 for 64 entries on three drives",
+    twice_damaged: "19 with bytes that every drive refuses",
+    twice_calibration: "19 for a calibration",
+    twice_row_of_1: "19 in a row of 1",
+    twice_and_14: "repeat refused by 14",
+    twice_and_15: "repeat refused by 15",
+    twice_and_tick: "repeat refused by 16 for an accepted tick alone",
+    twice_and_entries: "repeat refused by 16 for over 64 entries alone",
+    twice_and_places: "repeat refused by 16 for a short answer row alone",
+    once_each: "list of two or more without repeats given",
+    once_each_unordered: "the same not in ascending order",
     row_of_0: "row of 0",
     row_of_1: "row of 1, call not refused",
     row_of_64: "row of 64, call not refused",
@@ -213,6 +230,13 @@ fn add(count: &mut u64, met: bool) {
     *count += u64::from(met);
 }
 
+/// Whether a number stands at two places of a list.
+fn has_repeat(list: &[u32]) -> bool {
+    let mut sorted = list.to_vec();
+    sorted.sort_unstable();
+    sorted.windows(2).any(|pair| pair[0] == pair[1])
+}
+
 impl HallCover {
     /// An event call on a row: what it was refused by or 0, its answers, and the row after it.
     pub fn event(
@@ -226,11 +250,13 @@ impl HallCover {
         let is_bad = |number: &u32| *number as usize >= drives;
         let tick = Event::from_bytes(bytes) == Ok(Event::Tick);
         let (long, short) = (list.len() > 64, places < list.len());
+        let twice = has_repeat(list);
         let fits = (!(1..=64).contains(&drives), list.iter().any(is_bad), tick || long || short);
         self.row(drives, refusal);
         add(&mut self.event_14, refusal == 14);
         add(&mut self.event_15, refusal == 15);
         add(&mut self.event_16, refusal == 16);
+        add(&mut self.event_19, refusal == 19);
         add(&mut self.fit_14_15, fits == (true, true, false));
         add(&mut self.fit_14_16, fits == (true, false, true));
         add(&mut self.fit_15_16, fits == (false, true, true));
@@ -241,6 +267,14 @@ impl HallCover {
         add(&mut self.tick_to_none, refusal == 16 && tick && list.is_empty());
         add(&mut self.tick_and_15, refusal == 15 && tick);
         add(&mut self.list_of_65, refusal == 16 && list.len() == 65 && !tick && !short);
+        add(&mut self.twice_and_14, refusal == 14 && twice);
+        add(&mut self.twice_and_15, refusal == 15 && twice);
+        add(&mut self.twice_and_tick, refusal == 16 && twice && tick && !long && !short);
+        add(&mut self.twice_and_entries, refusal == 16 && twice && long && !tick && !short);
+        add(&mut self.twice_and_places, refusal == 16 && twice && short && !tick && !long);
+        if refusal == 19 && twice {
+            self.twice(drives, list, bytes);
+        }
         match places.cmp(&list.len()) {
             Ordering::Less => self.answers_shorter += 1,
             Ordering::Equal => self.answers_equal += 1,
@@ -271,11 +305,29 @@ impl HallCover {
             add(&mut self.wait_of_refused, answer != 0 && kept);
             add(&mut self.restart_refused, restart && answer != 0 && kept);
         }
-        let mut listed = [false; 64];
-        let again = |&&number: &&u32| std::mem::replace(&mut listed[number as usize], true);
-        let repeats: Vec<_> = list.iter().filter(again).map(|&number| number as usize).collect();
-        add(&mut self.twice, !repeats.is_empty());
-        add(&mut self.twice_changed, repeats.iter().any(|&number| row[number] != after[number]));
+        add(&mut self.once_each, list.len() > 1 && !twice);
+        add(&mut self.once_each_unordered, !twice && list.windows(2).any(|pair| pair[0] > pair[1]));
+    }
+
+    /// A list refused by 19: where the entries stand that name one drive, and what it was given with.
+    fn twice(&mut self, drives: usize, list: &[u32], bytes: &[u8]) {
+        let last = list.len() - 1;
+        let with_earlier = |k: usize| (0..k).map(move |i| (i, k));
+        let pairs: Vec<_> = (0..=last).flat_map(with_earlier).filter(|&(i, k)| list[i] == list[k]).collect();
+        let all = |holds: fn(usize, usize, usize) -> bool| pairs.iter().all(|&(i, k)| holds(i, k, last));
+        add(&mut self.twice_neighbours, all(|i, k, _| i + 1 == k));
+        add(&mut self.twice_ends, last > 1 && pairs == [(0, last)]);
+        add(&mut self.twice_not_first, all(|i, _, _| i > 0));
+        add(&mut self.twice_at_last, all(|_, k, last| k == last));
+        add(&mut self.twice_inside, all(|i, k, last| i > 0 && k < last));
+        add(&mut self.twice_behind_32, all(|_, k, _| k >= 32));
+        add(&mut self.twice_in_64, list.len() == 64 && pairs.len() == 1);
+        let named = (0..drives as u32).filter(|number| list.contains(number)).count();
+        add(&mut self.twice_on_three, list.len() == 64 && named == 3);
+        let event = Event::from_bytes(bytes);
+        add(&mut self.twice_damaged, event.is_err());
+        add(&mut self.twice_calibration, event == Ok(Event::Calibration));
+        add(&mut self.twice_row_of_1, drives == 1);
     }
 
     /// A hall tick on a row: what it was refused by or 0 and which drives were due, its numbers, which drives

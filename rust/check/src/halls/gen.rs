@@ -159,36 +159,80 @@ impl HallGen {
         Call::Event { list, bytes, places }
     }
 
-    /// Numbers below the row's length if it has one: a stretch of the row, or any, with repeats.
+    /// Numbers below the row's length if it has one, mostly without repeats.
     fn list(&mut self, drives: u32) -> Vec<u32> {
         let rng = &mut self.gen.rng;
         let entries = match rng.below(64) {
-            0..6 => 0,
-            6..20 => 1,
-            20..40 => 1 + rng.below(8),
-            40..50 => 1 + rng.below(64),
-            50..54 => 64,
-            54 | 55 => 65,
-            56 => 66 + rng.below(64),
-            57 => 256 + rng.below(65),
+            0..5 => 0,
+            5..16 => 1,
+            16..30 => 1 + rng.below(8),
+            30..41 => 1 + rng.below(64),
+            41..46 => 64,
+            46 | 47 => 65,
+            48 => 66 + rng.below(64),
+            49 => 256 + rng.below(65),
             _ => drives.min(64),
         };
         let some = drives.max(1);
-        let first = rng.below(some);
-        if rng.once_in(2) {
-            return (0..entries).map(|i| (first + i) % some).collect();
+        match rng.below(16) {
+            0 => self.on_three(entries, some),
+            1 => (0..entries).map(|_| rng.below(some)).collect(),
+            2..5 if (2..=65).contains(&entries) => self.with_a_repeat(entries, some),
+            // A longer list begins anew where the drives end.
+            _ if entries > 64 => self.once_each(some).into_iter().cycle().take(entries as usize).collect(),
+            _ => self.once_each(some).into_iter().take(entries as usize).collect(),
         }
-        let mut number = first;
-        let mut any = |_| {
-            if !rng.once_in(6) {
-                number = rng.below(some);
-            }
-            number
-        };
-        (0..entries).map(&mut any).collect()
     }
 
-    /// Puts a number that is mostly no drive's anywhere in the list, beyond the 64th entry too.
+    /// Each drive once: the row from any drive on, or in any order.
+    fn once_each(&mut self, some: u32) -> Vec<u32> {
+        let rng = &mut self.gen.rng;
+        let mut list: Vec<_> = (0..some).collect();
+        if rng.once_in(2) {
+            list.rotate_left(rng.below(some) as usize);
+        } else {
+            for place in 0..some {
+                list.swap(place as usize, (place + rng.below(some - place)) as usize);
+            }
+        }
+        list
+    }
+
+    /// Entries that name three drives at most, often 64 of them.
+    fn on_three(&mut self, entries: u32, some: u32) -> Vec<u32> {
+        let mut drives = self.once_each(some);
+        drives.truncate(3);
+        let rng = &mut self.gen.rng;
+        let entries = if rng.once_in(2) { 64 } else { entries };
+        (0..entries).map(|_| rng.pick(&drives)).collect()
+    }
+
+    /// Each drive once but for a single pair of entries, as far as there are drives for so many.
+    fn with_a_repeat(&mut self, entries: u32, some: u32) -> Vec<u32> {
+        let mut list = self.once_each(some);
+        list.truncate(entries as usize - 1);
+        let last = list.len() as u32;
+        let rng = &mut self.gen.rng;
+        // Where the pair may stand: neither first nor last, behind the second entry, anywhere.
+        let (least, most) = match rng.below(4) {
+            0 if last > 2 => (1, last - 1),
+            1 if last > 2 => (2, last),
+            _ => (0, last),
+        };
+        let any = least + rng.below(most - least);
+        let (place, again) = match rng.below(5) {
+            0 => (any, any + 1),
+            1 => (least, most),
+            2 => (least, least + 1 + rng.below(most - least)),
+            3 => (any, most),
+            _ => (any, any + 1 + rng.below(most - any)),
+        };
+        list.insert(again as usize, list[place as usize]);
+        list
+    }
+
+    /// Puts a number that is mostly no drive's anywhere in the list, beyond the 64th entry too, and at times
+    /// at two places.
     fn spoil(&mut self, list: &mut Vec<u32>, drives: u32) {
         let rng = &mut self.gen.rng;
         let low = rng.below(drives.max(1));
@@ -201,6 +245,9 @@ impl HallGen {
             1 => list[rng.below(entries) as usize] = bad,
             _ if entries > 64 => list[64 + rng.below(entries - 64) as usize] = bad,
             _ => list[entries as usize - 1] = bad,
+        }
+        if entries > 0 && rng.once_in(8) {
+            list[rng.below(entries) as usize] = bad;
         }
     }
 

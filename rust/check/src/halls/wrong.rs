@@ -1,9 +1,5 @@
 //! Wrong halls, each named by what it gets wrong; the comparison or demand 3 of a share has to catch every
 //! one. Each is `hall` with a change, in `edits/halls.rs`.
-//!
-//! A hall that gives a drive listed twice its second event as the drive was at entry is not among them: of
-//! the events other than a tick, none leaves or answers anything else the second time, as a test of
-//! `tests/hall.rs` sees.
 
 use super::gen::Call;
 use super::{first_failure, Failed};
