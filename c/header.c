@@ -609,7 +609,7 @@ static void hall_refusals(damper_drive fresh)
     CHECK(give_hall(1, list, 1, a_tick, SIX, 1) == no_call && untouched());
     CHECK(give_hall(1, list, 1, a_setpoint, 0, 0) == no_call && untouched());
 
-    /* 19: one number at any two places of the list, also of bytes that no drive takes; none where the two differ. */
+    /* 19: one number at any two places of the list, also with bytes that no drive takes; none where the two differ. */
     fill_hall(fresh);
     for (size_t k = 1; k < most; k++)
         for (size_t j = 0; j < k; j++) {

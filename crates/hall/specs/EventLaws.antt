@@ -1,16 +1,15 @@
--- Laws of an event call. W-205: "its answers for lists without repeats are unaffected", by the definition of W-201; and where no list
--- names a drive twice, each drive is given the event as it stood before the call, whatever the order of the list.
+-- Laws of an event call. W-205: "its answers for lists without repeats are unaffected", by the definition of W-201; and each drive is given
+-- the event as it stood before the call, whatever the order of the list.
 use mathlib.Core.Path.{_≡_, refl, sym, ap, _∙_}
-use mathlib.Core.Bool.{true, false, _&&_, false≢true}
+use mathlib.Core.Bool.{Bool, true, false, not, _&&_, _||_, or-true, false≢true}
 use mathlib.Core.List.{List, [], _∷_, _++_, map, map-map}
-use Prim.Native.Nat.{ℕ, _+_, _<_}
+use Prim.Native.Nat.{ℕ, _<_}
 use native.Mathlib.Omega.{arith}
 use lib.Dec.{eqb}
 use lib.ListN.{length, drop, length-map}
-use lib.Seq.{lt-length-set}
-use borrow.Author.Tests.{eqb-true, eqb-false}
+use borrow.Author.Tests.{eqb-true, eqb-false, eq-eqb, lt-leb, not-true}
 use Rattle.numbers.specs.Numbers.{pick}
-use Rattle.numbers.specs.Laws.{cases, or-left, or-right, passed}
+use Rattle.numbers.specs.Laws.{cases, and-left, and-right, passed}
 use Rattle.numbers.specs.Places.{tabulate}
 use Rattle.numbers.specs.PlaceLaws.{tab-by, tab-same}
 use Rattle.answer.specs.Answer.{numberOf}
@@ -18,23 +17,22 @@ use Rattle.damper.specs.declared.Drive.{Drive}
 use Rattle.damper.specs.declared.Outcome.{Outcome}
 use Rattle.damper.specs.Record.{freshDrive}
 use Rattle.damper.specs.Carry.{StepOn, answersIn}
-use Rattle.hall.specs.Hall.{give, namedIn, namesTwice, eventRefusal, callRefusal, Given, bytes, Turn, turn, carriedOut, turnsOf, at, rowWith, turned, rowAfter, answersAfter}
-use Rattle.hall.specs.Laws.{event-passed, first-most, asked-after, refused-before, row-length}
-use Rattle.hall.specs.TickLaws.{here, elsewhere}
+use Rattle.hall.specs.Hall.{Call, give, tick, badNumber, namedIn, namesTwice, refusalTo16, callRefusal, Given, bytes, Turn, turnsAsked, carriedOut, turnsOf, at, turned, rowAfter, answersAfter, turnsIn}
+use Rattle.hall.specs.Laws.{good-at, event-passed, first-most, asked-after, refused-before}
+use Rattle.hall.specs.ListLaws.{named-place}
+use Rattle.hall.specs.OnceLaws.{once-row, once-turned}
 
 -- When 19 is the answer.
 module _ (n : ℕ) (list s : List ℕ) (room : ℕ) where
-  abbrev first : ℕ
-  first = eventRefusal n list s room 0
-
   -- "19 when a list names a drive twice, checked after 16"
-  pub twice-refused : first ≡ 0 → namesTwice list ≡ true → callRefusal n (give list s room) ≡ 19
+  pub twice-refused : refusalTo16 n list s room ≡ 0 → namesTwice list ≡ true → callRefusal n (give list s room) ≡ 19
   unfolding callRefusal
   twice-refused e t = asked-after n list s room _ e ∙ rw t
 
-  pub refused-twice : callRefusal n (give list s room) ≡ 19 → (first ≡ 0) × (namesTwice list ≡ true)
+  pub refused-twice : callRefusal n (give list s room) ≡ 19 → (refusalTo16 n list s room ≡ 0) × (namesTwice list ≡ true)
   unfolding callRefusal
   refused-twice e =
+      let first = refusalTo16 n list s room in
       cases (eqb first 0)
       (λ q.
       let z = eqb-true first 0 q in
@@ -46,7 +44,7 @@ module _ (n : ℕ) (list s : List ℕ) (room : ℕ) where
       absurd (omega arith))
 
   -- a list without repeats is refused as W-201 has it
-  pub once-refusal : namesTwice list ≡ false → callRefusal n (give list s room) ≡ first
+  once-refusal : namesTwice list ≡ false → callRefusal n (give list s room) ≡ refusalTo16 n list s room
   unfolding callRefusal
   once-refusal t = rw t
 
@@ -55,106 +53,115 @@ module _ (n : ℕ) (list s : List ℕ) (room : ℕ) where
   unfolding callRefusal
   given-once e = passed (namesTwice list) 19 0 (event-passed n list s room _ e .3) (omega arith) .0
 
-module _ (step : StepOn Given) (s : List ℕ) where
-  abbrev turns : List ℕ → List Turn
-  turns list = map (turn (bytes s)) list
+-- Lists without repeats, as W-201 has them.
 
-  -- W-201's turns of an event call: the refusals 14 to 16, and then one for each entry
-  abbrev pub turnsTo16 : ℕ → List ℕ → ℕ → List Turn
-  turnsTo16 n list room = pick (eqb (eventRefusal n list s room 0) 0) (turns list) []
+-- W-201's turns of a call: of an event call where none of 14 to 16 fits
+abbrev pub turnsTo16 : ℕ → Call → List Turn
+turnsTo16 n (give list s room) = pick (eqb (refusalTo16 n list s room) 0) (turnsAsked n (give list s room)) []
+turnsTo16 n (tick quota sends room) = turnsOf n (tick quota sends room)
 
-  -- "its answers for lists without repeats are unaffected": the refusal, the row and the answer row are those of W-201
-  pub unaffected : (row : List Drive) (list : List ℕ) (answers : List ℕ) → namesTwice list ≡ false
+-- and of a list of calls
+unfoldable pub turnsInTo16 : ℕ → List Call → List Turn
+turnsInTo16 n [] = []
+turnsInTo16 n (c ∷ cs) = turnsTo16 n c ++ turnsInTo16 n cs
+
+-- whether no list of these calls names a drive twice
+abbrev pub once : Call → Bool
+once (give list s room) = not (namesTwice list)
+once (tick quota sends room) = true
+
+unfoldable pub allOnce : List Call → Bool
+allOnce [] = true
+allOnce (c ∷ cs) = once c && allOnce cs
+
+once-turns : (n : ℕ) (c : Call) → once c ≡ true → turnsOf n c ≡ turnsTo16 n c
+unfolding turnsOf
+once-turns n (give list s room) e = rw (once-refusal n list s room (not-true (namesTwice list) e))
+once-turns n (tick quota sends room) e = refl
+
+-- "its answers for lists without repeats are unaffected": the refusal, the row and the answer row are those of W-201
+pub unaffected : (step : StepOn Given) (row : List Drive) (list s answers : List ℕ) → namesTwice list ≡ false
+    → (let n = length row in
+    let c = give list s (length answers) in
+    (callRefusal n c ≡ refusalTo16 n list s (length answers))
+    × (rowAfter step row (turnsOf n c) ≡ rowAfter step row (turnsTo16 n c))
+    × (answersAfter step row c answers ≡ answersIn numberOf (turned step row (turnsTo16 n c)) answers))
+unfolding answersAfter
+unaffected step row list s answers t =
+    let same = once-turns (length row) (give list s (length answers)) (ap not t) in
+    (once-refusal (length row) list s (length answers) t, ap (rowAfter step row) same, rw same)
+
+-- and so are all turns of a list of calls
+pub turns-unaffected : (n : ℕ) (cs : List Call) → allOnce cs ≡ true → turnsIn n cs ≡ turnsInTo16 n cs
+unfolding turnsIn turnsInTo16 allOnce
+turns-unaffected n [] e = refl
+turns-unaffected n (c ∷ cs) e = rw (once-turns n c (and-left (once c) _ e), turns-unaffected n cs (and-right (once c) _ e))
+
+-- The event call, whole: what it leaves in the row and in the answer row, for every row of drives, list, bytes and answer row.
+module _ (step : StepOn Given) (row : List Drive) (list s : List ℕ) where
+  pub event-row : (room : ℕ)
       → (let n = length row in
-      let room = length answers in
       let c = give list s room in
-      (callRefusal n c ≡ eventRefusal n list s room 0)
-      × (rowAfter step row (turnsOf n c) ≡ rowAfter step row (turnsTo16 n list room))
-      × (answersAfter step row c answers ≡ answersIn numberOf (turned step row (turnsTo16 n list room)) answers))
-  unfolding turnsOf answersAfter
-  unaffected row list answers t =
-      let e = once-refusal (length row) list s (length answers) t in
-      (e, rw e, rw e)
+      rowAfter step row (turnsOf n c)
+      ≡ tabulate n (λ i. pick (carriedOut n c && namedIn i list) (step (at row i) (bytes s) .drive) (at row i)))
+  unfolding turnsOf rowAfter
+  event-row room =
+      let n = length row in
+      let c = give list s room in
+      cases (carriedOut n c)
+      (λ q. rw q (once-row (λ i. bytes s) step row list (given-once n list s room (eqb-true _ 0 q))))
+      (λ q. rw q (tab-by freshDrive row n (at row) refl (λ i h. refl)))
 
-  -- What the turns of a list without repeats do.
-
-  row-unnamed : (list : List ℕ) (row : List Drive) (i : ℕ) → namedIn i list ≡ false → at (rowAfter step row (turns list)) i ≡ at row i
-  unfolding rowAfter namedIn
-  row-unnamed [] row i e = refl
-  row-unnamed (j ∷ list) row i e =
-      let t = turn (bytes s) j in
-      row-unnamed list (rowWith step row t) i (or-right (eqb i j) _ e)
-      ∙ elsewhere step row t i (λ q. eqb-false i j (or-left (eqb i j) _ e) (sym q))
-
-  row-named : (list : List ℕ) (row : List Drive) (i : ℕ) → namesTwice list ≡ false → namedIn i list ≡ true → i < length row
-      → at (rowAfter step row (turns list)) i ≡ step (at row i) (bytes s) .drive
-  unfolding rowAfter namedIn namesTwice
-  row-named [] row i t e h = absurd (false≢true e)
-  row-named (j ∷ list) row i t e h =
-      let g = turn (bytes s) j in
-      let alone = or-left (namedIn j list) _ t in
-      cases (eqb i j)
+  pub event-answers : (answers : List ℕ)
+      → (let c = give list s (length answers) in
+      answersAfter step row c answers
+      ≡ pick (carriedOut (length row) c) (map (λ i. numberOf (step (at row i) (bytes s) .answer)) list ++ drop (length list) answers) answers)
+  unfolding turnsOf turned answersIn answersAfter
+  event-answers answers =
+      let n = length row in
+      let c = give list s (length answers) in
+      let f : ℕ → Outcome = λ i. step (at row i) (bytes s) in
+      cases (carriedOut n c)
       (λ q.
-      let same = eqb-true i j q in
-      row-unnamed list (rowWith step row g) i (rw same alone) ∙ here step row g i h (sym same))
-      (λ q.
-      row-named list (rowWith step row g) i (or-right (namedIn j list) _ t) (rw q at e) (lt-length-set row j _ h)
-      ∙ ap (λ (d : Drive). step d (bytes s) .drive) (elsewhere step row g i (λ r. eqb-false i j q (sym r))))
+      rw (q, once-turned (λ i. bytes s) step list row (given-once n list s (length answers) (eqb-true _ 0 q)), length-map list f, map-map (λ (o : Outcome). numberOf (o .answer)) f list))
+      (λ q. rw q)
 
-  -- Each drive that the list names is the step of the record that stood there when the call began; the others keep theirs.
-  pub once-row : (row : List Drive) (list : List ℕ) → namesTwice list ≡ false
-      → rowAfter step row (turns list) ≡ tabulate (length row) (λ i. pick (namedIn i list) (step (at row i) (bytes s) .drive) (at row i))
-  once-row row list t =
-      tab-by freshDrive _ (length row) _ (row-length step row (turns list))
-      (λ i h. cases (namedIn i list) (λ q. rw q (row-named list row i t q h)) (λ q. rw q (row-unnamed list row i q)))
+-- The order of the list: two lists of one length that name the same drives, both with repeats or both without.
 
-  -- what a row elsewhere changed gives to the drives of a list
-  same-given : (list : List ℕ) (row : List Drive) (t : Turn) → namedIn (t .place) list ≡ false
-      → map (λ i. step (at (rowWith step row t) i) (bytes s)) list ≡ map (λ i. step (at row i) (bytes s)) list
-  unfolding namedIn
-  same-given [] row t e = refl
-  same-given (j ∷ list) row t e =
-      rw (elsewhere step row t j (eqb-false (t .place) j (or-left (eqb (t .place) j) _ e)), same-given list row t (or-right (eqb (t .place) j) _ e))
+good-named : (n : ℕ) (list : List ℕ) → badNumber n list ≡ false → (i : ℕ) → namedIn i list ≡ true → i < n
+good-named n list g i e = let p = named-place i list e in rw (← (p .2)) (good-at n list g (p .0) (p .1))
 
-  -- And each answer is that of this step.
-  pub once-turned : (list : List ℕ) (row : List Drive) → namesTwice list ≡ false
-      → turned step row (turns list) ≡ map (λ i. step (at row i) (bytes s)) list
-  unfolding turned namesTwice
-  once-turned [] row t = refl
-  once-turned (j ∷ list) row t =
-      let g = turn (bytes s) j in
-      rw (once-turned list (rowWith step row g) (or-right (namedIn j list) _ t), same-given list row g (or-left (namedIn j list) _ t))
+good-by : (n : ℕ) (list : List ℕ) → ((i : ℕ) → namedIn i list ≡ true → i < n) → badNumber n list ≡ false
+unfolding badNumber namedIn
+good-by n [] h = refl
+good-by n (i ∷ list) h =
+    rw (lt-leb n i (h i (ap (λ (b : Bool). b || namedIn i list) (eq-eqb i i refl))))
+    (good-by n list (λ j e. h j (rw e (or-true (eqb i j)))))
 
-  -- Two such lists that name the same drives leave the same row.
-  pub any-order : (row : List Drive) (list other : List ℕ) → namesTwice list ≡ false → namesTwice other ≡ false
-      → ((i : ℕ) → namedIn i list ≡ namedIn i other) → rowAfter step row (turns list) ≡ rowAfter step row (turns other)
-  any-order row list other t u e = once-row row list t ∙ tab-same freshDrive (length row) _ _ (λ i h. rw (e i)) ∙ sym (once-row row other u)
+same-bad : (n : ℕ) (list other : List ℕ) → ((i : ℕ) → namedIn i list ≡ namedIn i other) → badNumber n list ≡ badNumber n other
+same-bad n list other e =
+    cases (badNumber n other)
+    (λ q.
+    cases (badNumber n list)
+    (λ p. p ∙ sym q)
+    (λ p. absurd (false≢true (sym (good-by n other (λ i f. good-named n list p i (e i ∙ f))) ∙ q))))
+    (λ q. good-by n list (λ i f. good-named n other q i (sym (e i) ∙ f)) ∙ sym q)
 
-  -- The event call, whole: what it leaves in the row and in the answer row, for every row of drives, list, bytes and answer row.
-  module _ (row : List Drive) (list : List ℕ) where
-    pub event-row : (room : ℕ)
-        → (let n = length row in
-        let c = give list s room in
-        rowAfter step row (turnsOf n c)
-        ≡ tabulate n (λ i. pick (carriedOut n c && namedIn i list) (step (at row i) (bytes s) .drive) (at row i)))
-    unfolding turnsOf rowAfter
-    event-row room =
-        let n = length row in
-        let c = give list s room in
-        cases (carriedOut n c)
-        (λ q. rw q (once-row row list (given-once n list s room (eqb-true _ 0 q))))
-        (λ q. rw q (tab-by freshDrive row n (at row) refl (λ i h. refl)))
+module _ (list other s : List ℕ) (room : ℕ) (l : length list ≡ length other) (t : namesTwice list ≡ namesTwice other) (e : (i : ℕ) → namedIn i list ≡ namedIn i other) where
+  same-refusal : (n : ℕ) → callRefusal n (give list s room) ≡ callRefusal n (give other s room)
+  unfolding callRefusal
+  same-refusal n = rw (same-bad n list other e, l, t)
 
-    pub event-answers : (answers : List ℕ)
-        → (let c = give list s (length answers) in
-        answersAfter step row c answers
-        ≡ pick (carriedOut (length row) c) (map (λ i. numberOf (step (at row i) (bytes s) .answer)) list ++ drop (length list) answers) answers)
-    unfolding turnsOf turned answersIn answersAfter
-    event-answers answers =
-        let n = length row in
-        let c = give list s (length answers) in
-        let f : ℕ → Outcome = λ i. step (at row i) (bytes s) in
-        cases (carriedOut n c)
-        (λ q.
-        rw (q, once-turned list row (given-once n list s (length answers) (eqb-true _ 0 q)), length-map list f, map-map (λ (o : Outcome). numberOf (o .answer)) f list))
-        (λ q. rw q)
+  -- The call gives the same number and leaves the same row.
+  pub any-order : (step : StepOn Given) (row : List Drive)
+      → (let n = length row in
+      (callRefusal n (give list s room) ≡ callRefusal n (give other s room))
+      × (rowAfter step row (turnsOf n (give list s room)) ≡ rowAfter step row (turnsOf n (give other s room))))
+  any-order step row =
+      let n = length row in
+      let same = same-refusal n in (
+        same,
+        event-row step row list s room
+            ∙ tab-same freshDrive n _ _ (λ i h. rw (same, e i))
+            ∙ sym (event-row step row other s room),
+      )

@@ -45,11 +45,12 @@ isTick s = readAsTick (readOf s)
 abbrev pub badEvent : List ℕ → List ℕ → ℕ → Bool
 badEvent list s room = (isTick s || ltb 64 (length list)) || ltb room (length list)
 
--- W-205, 19: "when a list names a drive twice": one number stands at two places of it, here at the first and again, or behind the first
+-- whether a list names the drive with this number
 unfoldable pub namedIn : ℕ → List ℕ → Bool
 namedIn i [] = false
-namedIn i (j ∷ list) = eqb i j || namedIn i list
+namedIn i (j ∷ list) = eqb j i || namedIn i list
 
+-- W-205, 19: "when a list names a drive twice": one number stands at two places of it, an entry and one behind it
 unfoldable pub namesTwice : List ℕ → Bool
 namesTwice [] = false
 namesTwice (i ∷ list) = namedIn i list || namesTwice list
@@ -62,9 +63,13 @@ badQuota quota = ltb quota 1 || ltb 64 quota
 abbrev pub tickRefusal : ℕ → ℕ → ℕ → ℕ
 tickRefusal n quota room = pick (badRow n) 14 (pick (ltb room n) 16 (pick (badQuota quota) 18 0))
 
--- of the event call: "14 to 16 come before 1 to 13, in this order", and behind them what a later request adds
+-- of the event call: "14 to 16 come before 1 to 13, in this order", and where none of them fits, the number `more`
 abbrev pub eventRefusal : ℕ → List ℕ → List ℕ → ℕ → ℕ → ℕ
 eventRefusal n list s room more = pick (badRow n) 14 (pick (badNumber n list) 15 (pick (badEvent list s room) 16 more))
+
+-- by W-201 alone
+abbrev pub refusalTo16 : ℕ → List ℕ → List ℕ → ℕ → ℕ
+refusalTo16 n list s room = eventRefusal n list s room 0
 
 -- the first number that fits a call on `n` drives, 0 if none does; 19 is "checked after 16"
 unfoldable pub callRefusal : ℕ → Call → ℕ

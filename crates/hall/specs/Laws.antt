@@ -17,7 +17,7 @@ use Rattle.damper.specs.declared.Drive.{Drive}
 use Rattle.damper.specs.declared.Outcome.{Outcome}
 use Rattle.damper.specs.Carry.{StepOn, answersIn}
 use Rattle.damper.specs.CarryLaws.{answers-more}
-use Rattle.hall.specs.Hall.{Call, give, badRow, badNumber, isTick, badEvent, badQuota, tickRefusal, eventRefusal, callRefusal, Given, bytes, Turn, turn, turnsOf, at, rowWith, turned, rowAfter, answerNumber, answersAfter}
+use Rattle.hall.specs.Hall.{Call, give, badRow, badNumber, isTick, badEvent, badQuota, tickRefusal, eventRefusal, refusalTo16, callRefusal, Given, bytes, Turn, turn, turnsOf, at, rowWith, turned, rowAfter, answerNumber, answersAfter}
 
 -- the numbers of a list from `k` on: the one at `k`, and those behind it
 pub bad-here : (n k : ℕ) (list : List ℕ) → k < length list → n ≤ getD list k 0 → badNumber n (drop k list) ≡ true
@@ -40,16 +40,16 @@ good-at n [] e k h = absurd (not-suc-le-zero h)
 good-at n (i ∷ list) e zero h = leb-false n i (or-left (leb n i) _ e)
 good-at n (i ∷ list) e (suc k) h = good-at n list (or-right (leb n i) _ e) k (le-of-suc-le-suc h)
 
-pub row-few : (n : ℕ) → badRow n ≡ false → n ≤ 64
-row-few n e = ltb-false 64 n (or-right (ltb n 1) _ e)
-
--- and then each is one of a longer row
+-- and of a longer row
 bad-longer : (n m : ℕ) (list : List ℕ) → n ≤ m → badNumber n list ≡ false → badNumber m list ≡ false
 unfolding badNumber
 bad-longer n m [] h e = refl
 bad-longer n m (i ∷ list) h e =
     let here = leb-false n i (or-left (leb n i) _ e) in
     rw (lt-leb m i (omega arith)) (bad-longer n m list h (or-right (leb n i) _ e))
+
+pub row-few : (n : ℕ) → badRow n ≡ false → n ≤ 64
+row-few n e = ltb-false 64 n (or-right (ltb n 1) _ e)
 
 -- What stands behind 14 to 16 is asked where none of them fits, and nowhere else.
 
@@ -77,7 +77,7 @@ most-of false false false = omega arith
 
 module _ (n : ℕ) (list s : List ℕ) (room : ℕ) where
   abbrev first : ℕ
-  first = eventRefusal n list s room 0
+  first = refusalTo16 n list s room
 
   after-16 : (more : ℕ) → eventRefusal n list s room more ≡ pick (eqb first 0) more first
   after-16 = first-of (badRow n) (badNumber n list) (badEvent list s room)

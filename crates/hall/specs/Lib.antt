@@ -3,6 +3,7 @@ pub mod Hall
 pub mod Quota
 pub mod Laws
 pub mod ListLaws
+pub mod OnceLaws
 pub mod TickLaws
 pub mod EventLaws
 pub mod NumberLaws

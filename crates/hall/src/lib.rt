@@ -5,7 +5,7 @@ ghost use Prim.Native.Nat.{_<_};
 ghost use lib.Dec.{eqb};
 ghost use lib.ListN.{length, getD};
 ghost use Rattle.numbers.specs.Numbers.{pick};
-ghost use Rattle.hall.specs.Hall.{give, badRow, badNumber, isTick, namesTwice, tickRefusal, eventRefusal, callRefusal};
+ghost use Rattle.hall.specs.Hall.{give, badRow, badNumber, isTick, namesTwice, tickRefusal, refusalTo16, callRefusal};
 use event::Decoded;
 use numbers::flag;
 use numbers::pick8;
@@ -82,7 +82,7 @@ pub fn bad_row(drives: usize) -> bool
 
 // The first of 14 to 16 that fits an event call, or 0.
 fn first_refusal(drives: usize, list: &[u32], s: &[u8], places: usize) -> u8
-    ensures { λ r. ⌜ r ≡ eventRefusal drives (now (list .entry)) (now (s .entry)) places 0 ⌝ }
+    ensures { λ r. ⌜ r ≡ refusalTo16 drives (now (list .entry)) (now (s .entry)) places ⌝ }
 {
     let row = bad_row(drives);
     let number = bad_number(drives, list);

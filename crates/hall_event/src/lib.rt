@@ -55,7 +55,7 @@ fn give_one(d: Drive, s: &[u8]) -> Given
 }
 
 // Gives the bytes of an event other than a tick to the drives that the list names, in its order, and fills one answer number for
-// each entry. Refused by 14, 15 or 16, it changes nothing.
+// each entry. Refused by 14, 15, 16 or 19, it changes nothing.
 #[no_mangle]
 pub extern "C" fn damper_hall_event(
     row: &mut [Drive],

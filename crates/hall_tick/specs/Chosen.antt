@@ -313,7 +313,7 @@ module _ (ys : List Drive) (ws : List ℕ) (quota n : ℕ) where
         let z : n ≡ length ys = stops ∙ rw e in
         rw e
         (tab-same freshDrive (length ys) _ _ (λ i l. rw (lt-ltb i n (omega arith), and-true (sends i)))
-        ∙ sym (tick-row hallStep (λ i. hallTick (sends i)) ys)))
+        ∙ sym (tick-row (λ i. hallTick (sends i)) hallStep ys)))
         (λ e.
         let z : n ≡ 0 = stops ∙ rw e in
         rw e (sym (tab-by freshDrive ys (length ys) _ refl (λ i l. rw (le-ltb i n (omega arith)))))))
@@ -332,7 +332,7 @@ module _ (ys : List Drive) (ws : List ℕ) (quota n : ℕ) where
         cases (ltb i n)
         (λ q. rw (← z, q, chosen-at fits-row room i (ltb-true i n q)) (number-told (drive i) (go fits-row room i)))
         (λ q. rw (← z, q) (chosen-behind fits-row room i (ltb-false i n q) b)))
-        ∙ sym (tick-numbers hallStep (λ i. hallTick (sends i)) tickNumber ys ws (omega arith))))
+        ∙ sym (tick-numbers (λ i. hallTick (sends i)) hallStep tickNumber ys ws (omega arith))))
         (λ e.
         let z : n ≡ 0 = stops ∙ rw e in
         rw e (ext-getD 0 chosen ws chosen-length (λ i b. chosen-behind fits-row room i (omega arith) (omega (arith, chosen-length))))))

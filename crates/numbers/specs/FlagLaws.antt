@@ -21,12 +21,12 @@ even-above m j =
     ∙ shifted-even 1 m
 
 -- of the binary digits of a power of two just one is 1
-power-digit : (i j : ℕ) → 2 ^ i / 2 ^ j % 2 ≡ pick (eqb j i) 1 0
+power-digit : (i j : ℕ) → 2 ^ i / 2 ^ j % 2 ≡ pick (eqb i j) 1 0
 power-digit i j =
-    cases (eqb j i)
-    (λ e. rw (e, eqb-true j i e) (ap (λ (x : ℕ). x % 2) (div-self (pow-pos i))))
+    cases (eqb i j)
+    (λ e. rw (e, eqb-true i j e) (ap (λ (x : ℕ). x % 2) (div-self (pow-pos j))))
     (λ e.
-    let other = eqb-false j i e in
+    let other = eqb-false i j e in
     rw e
     (cases (ltb j i)
     (λ l.
@@ -46,11 +46,11 @@ larger-digit (suc zero) false h = refl
 larger-digit (suc (suc x)) b h = absurd (omega arith)
 
 -- a flag set beside others
-pub flag-more : (flags i j : ℕ) → flagAt (bitOr flags (2 ^ i)) j ≡ (eqb j i || flagAt flags j)
+pub flag-more : (flags i j : ℕ) → flagAt (bitOr flags (2 ^ i)) j ≡ (eqb i j || flagAt flags j)
 flag-more flags i j =
     let a = flags / 2 ^ j in
     let b = 2 ^ i / 2 ^ j in
     let low : a % 2 < 2 = mod-lt a (omega arith) in
     let digit : bitOr a b % 2 ≡ max (a % 2) (b % 2) % 2 =
     ap (λ (x : ℕ). x % 2) (or-step a b) ∙ mul-add-mod-self-right (bitOr (a / 2) (b / 2)) 2 (max (a % 2) (b % 2)) in
-    rw (or-shr flags (2 ^ i) j, digit, power-digit i j) (larger-digit (a % 2) (eqb j i) low)
+    rw (or-shr flags (2 ^ i) j, digit, power-digit i j) (larger-digit (a % 2) (eqb i j) low)

@@ -3,7 +3,7 @@ use mathlib.Core.Path.{_≡_, refl, sym, _∙_}
 use mathlib.Core.Bool.{Bool, true, false, not, _&&_, _||_, false≢true}
 use Prim.Native.Nat.{ℕ, zero, suc, _*_, _≤_}
 use native.Mathlib.Omega.{arith}
-use borrow.Author.Tests.{lt-leb, ne-eqb}
+use borrow.Author.Tests.{lt-leb, eqb-true, eqb-false, eq-eqb, ne-eqb}
 use lib.Dec.{eqb}
 use Rattle.numbers.specs.Numbers.{pick, on, isFlag, bit}
 
@@ -26,6 +26,15 @@ pub or-right : (a b : Bool) → a || b ≡ false → b ≡ false
 or-right true b e = absurd (false≢true (sym e))
 or-right false b e = e
 
+pub or-swap : (a b c : Bool) → (a || (b || c)) ≡ (b || (a || c))
+or-swap true true c = refl
+or-swap true false c = refl
+or-swap false b c = refl
+
+pub or-cross : (a b c d : Bool) → ((a || b) || (c || d)) ≡ ((a || c) || (b || d))
+or-cross true b c d = refl
+or-cross false b c d = or-swap b c d
+
 pub not-false : (b : Bool) → not b ≡ false → b ≡ true
 not-false true e = refl
 not-false false e = sym e
@@ -33,6 +42,10 @@ not-false false e = sym e
 pub cases : {A : Type 0} (b : Bool) → (b ≡ true → A) → (b ≡ false → A) → A
 cases true f g = f refl
 cases false f g = g refl
+
+-- two numbers are equal in either order
+pub eqb-swap : (i j : ℕ) → eqb i j ≡ eqb j i
+eqb-swap i j = cases (eqb j i) (λ q. rw (q, eq-eqb i j (sym (eqb-true j i q)))) (λ q. rw (q, ne-eqb i j (λ e. eqb-false j i q (sym e))))
 
 -- what holds on either side of a pick holds of the pick
 pub pick-elim : {A : Type 0} (P : A → Type 0) (b : Bool) {x y : A} → (b ≡ true → P x) → (b ≡ false → P y) → P (pick b x y)

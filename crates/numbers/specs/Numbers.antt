@@ -1,4 +1,4 @@
--- The small words that the definitions of document 01's drive are written in.
+-- The small words that the definitions of drive and hall are written in.
 use mathlib.Core.Bool.{Bool, true, false}
 use Prim.Native.Nat.{ℕ, _+_, _-_, _/_, _%_, _^_, min}
 use lib.Dec.{leb, eqb}

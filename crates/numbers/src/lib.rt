@@ -42,7 +42,7 @@ pub fn flag(flags: u64, i: usize) -> bool
 // The flags with flag `i` set too.
 pub fn with_flag(flags: u64, i: usize) -> u64
     requires { ⌜ i < 64 ⌝ }
-    ensures { λ r. ⌜ ((j : ℕ) → flagAt r j ≡ (eqb j i || flagAt flags j)) ⌝ }
+    ensures { λ r. ⌜ ((j : ℕ) → flagAt r j ≡ (eqb i j || flagAt flags j)) ⌝ }
 {
     flags | (1 << i)
 }

@@ -23,8 +23,8 @@ use Rattle.invariant.specs.Kept.{wf-step, formed-kept}
 use Rattle.hall.specs.Hall.{Call, give, tick, tickRefusal, callRefusal, Given, bytes, hallTick, Turn, turn, turnsOf, at, rowAfter, turnsIn, sharedOut, share}
 use Rattle.hall.specs.Quota.{dueNow, waitAfter, hallTicked, hallStep, goesBefore, longest, allowed, allowedCall, allowedCalls}
 use Rattle.hall.specs.Laws.{row-length, ticked-fits}
-use Rattle.hall.specs.TickLaws.{tick-row}
-use Rattle.shares.specs.Shares.{one-here, shared-append, turns-drive}
+use Rattle.hall.specs.TickLaws.{tick-shared, tick-row}
+use Rattle.shares.specs.Shares.{shared-append, turns-drive}
 use Rattle.shares.specs.WaitLaws.{restart, wait-event, wait-tick, wait-sent, wait-held, formed-ticked}
 
 -- Of what a drive is given: how many hall ticks, whether it is due at each of them, whether it is sent at one, whether it is restarted.
@@ -259,9 +259,9 @@ module _ (row : List Drive) (i k : ℕ) (b : i < length row) (gs : List Given) w
       let n = length row in
       let ts = tabulate n (λ x. turn (hallTick (sends x)) x) in
       let size : length (after ts) ≡ n = row-length hallStep row ts in
-      let given = one-here sends i 0 i n b (omega arith) in
+      let given = tick-shared (λ x. hallTick (sends x)) n i b in
       let stands : (x : ℕ) → x < n → at (after ts) x ≡ hallTicked (sends x) (at row x) .drive =
-      λ x l. ap (λ (y : List Drive). at y x) (tick-row hallStep (λ y. hallTick (sends y)) row) ∙ tab-at n _ freshDrive x l in
+      λ x l. ap (λ (y : List Drive). at y x) (tick-row (λ y. hallTick (sends y)) hallStep row) ∙ tab-at n _ freshDrive x l in
       let h′ : Held (at row i) k (hallTick (sends i) ∷ gs) = rw given at h in
       let below : k < 65535 = omega (arith, held-counts row i k _ b h, cap (ticked-fits n quota room r .0)) in
       let t = held-tick (at row i) k (sends i) gs below h′ in

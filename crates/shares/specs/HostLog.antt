@@ -23,10 +23,10 @@ use Rattle.choice.specs.Sent.{isReportNumber}
 use Rattle.hall.specs.Hall.{Call, give, tick, isTick, callRefusal, bytes, hallTick, turn, turnsOf, at, rowAfter, tickNumber, answersAfter, turnsIn, sharedOut, share}
 use Rattle.hall.specs.Quota.{hallTicked, hallStep, allowedCalls}
 use Rattle.hall.specs.Laws.{row-length}
-use Rattle.hall.specs.TickLaws.{number-among}
+use Rattle.hall.specs.TickLaws.{tick-shared, number-at}
 use Rattle.history.specs.Log.{Entry}
 use Rattle.history.specs.Claim.{reportIn, entriesOf, reportsFrom}
-use Rattle.shares.specs.Shares.{one-here, shared-append, turns-drive, share-answers}
+use Rattle.shares.specs.Shares.{shared-append, turns-drive, share-answers}
 use Rattle.shares.specs.SharedLog.{sharedLog}
 use Rattle.shares.specs.Theorem.{no-tick, quiet, share-log}
 
@@ -126,8 +126,8 @@ heard-said row i h (tick quota sends room) answers later =
     cases (eqb (callRefusal (length row) (tick quota sends room)) 0)
     (λ q.
     let n = length row in
-    let given = one-here sends i 0 i n h (omega arith) in
-    rw (q, number-among hallStep (λ x. hallTick (sends x)) tickNumber _ n row 0 i i h (omega arith), number-read (sends i) (at row i), given))
+    let given = tick-shared (λ x. hallTick (sends x)) n i h in
+    rw (q, number-at (λ x. hallTick (sends x)) hallStep tickNumber _ n row i h, number-read (sends i) (at row i), given))
     (λ q. rw q)
 
 -- The log of a drive's place says what its share does, whatever drive stood there.

@@ -1,22 +1,23 @@
--- W-205: no call gives a drive more than one thing. For every step, every row of drives and every list of calls, carried out or not: a call
--- gives each drive that it names one thing, on the record that stood there when the call began, and the others nothing.
+-- W-205: no call gives a drive anything twice. For every step, every row of drives and every list of calls: a call that is carried out gives
+-- each drive that it names one thing, on the record that stood there when the call began, and the others nothing; one that is refused
+-- gives nothing. And lists of calls without repeats do what W-201's definition has them do.
 use mathlib.Core.Path.{_≡_, refl, sym, ap, _∙_}
-use mathlib.Core.Bool.{Bool, true, false, _&&_}
-use mathlib.Core.List.{List, [], _∷_, _++_, map, append-nil}
+use mathlib.Core.Bool.{Bool, true, _&&_}
+use mathlib.Core.List.{List, [], _∷_, _++_, append-nil}
 use Prim.Native.Nat.{ℕ, _+_, _<_}
-use native.Mathlib.Omega.{arith}
-use lib.Dec.{eqb}
 use lib.ListN.{length}
-use borrow.Author.Tests.{eqb-true, eqb-false, eq-eqb, ne-eqb}
+use borrow.Author.Tests.{eqb-true}
 use Rattle.numbers.specs.Numbers.{pick}
-use Rattle.numbers.specs.Laws.{cases, or-left, or-right}
+use Rattle.numbers.specs.Laws.{cases}
 use Rattle.damper.specs.declared.Drive.{Drive}
 use Rattle.damper.specs.declared.Outcome.{Outcome}
 use Rattle.damper.specs.Carry.{StepOn, outcomes, driveAfter}
 use Rattle.damper.specs.CarryLaws.{outcomes-append, drive-last}
-use Rattle.hall.specs.Hall.{Call, give, tick, namedIn, namesTwice, Given, bytes, hallTick, turn, carriedOut, turnsOf, at, turnsIn, hallAfter, sharedOut, share, own}
-use Rattle.hall.specs.EventLaws.{given-once}
-use Rattle.shares.specs.Shares.{one-here, shared-append, share-append, share-drive, share-answers}
+use Rattle.hall.specs.Hall.{Call, give, tick, namedIn, Given, bytes, hallTick, carriedOut, turnsOf, at, turned, rowAfter, turnsIn, hallAfter, hallTurned, sharedOut, share, own}
+use Rattle.hall.specs.OnceLaws.{once-shared}
+use Rattle.hall.specs.TickLaws.{tick-shared}
+use Rattle.hall.specs.EventLaws.{given-once, turnsInTo16, allOnce, turns-unaffected}
+use Rattle.shares.specs.Shares.{shared-append, share-append, hall-row, hall-turned, share-drive, share-answers}
 
 -- whether a call names the drive at place `i`, a hall tick naming each
 abbrev pub names : ℕ → Call → Bool
@@ -37,29 +38,13 @@ unfoldable pub shareByCalls : ℕ → ℕ → List Call → List Given
 shareByCalls n i [] = []
 shareByCalls n i (c ∷ cs) = let rest = shareByCalls n i cs in pick (reaches n i c) (gives i c ∷ rest) rest
 
-none-shared : (i : ℕ) (s list : List ℕ) → namedIn i list ≡ false → sharedOut i (map (turn (bytes s)) list) ≡ []
-unfolding sharedOut namedIn
-none-shared i s [] e = refl
-none-shared i s (j ∷ list) e =
-    rw (ne-eqb j i (λ q. eqb-false i j (or-left (eqb i j) _ e) (sym q))) (none-shared i s list (or-right (eqb i j) _ e))
-
-one-shared : (i : ℕ) (s list : List ℕ) → namesTwice list ≡ false → sharedOut i (map (turn (bytes s)) list) ≡ pick (namedIn i list) (bytes s ∷ []) []
-unfolding sharedOut namedIn namesTwice
-one-shared i s [] t = refl
-one-shared i s (j ∷ list) t =
-    cases (eqb i j)
-    (λ q.
-    let same = eqb-true i j q in
-    rw (q, eq-eqb j i (sym same), none-shared i s list (rw same (or-left (namedIn j list) _ t))))
-    (λ q. rw (q, ne-eqb j i (λ e. eqb-false i j q (sym e))) (one-shared i s list (or-right (namedIn j list) _ t)))
-
 -- the turns of one call
 turn-shared : (n i : ℕ) → i < n → (c : Call) → sharedOut i (turnsOf n c) ≡ pick (reaches n i c) (gives i c ∷ []) []
 unfolding turnsOf sharedOut
 turn-shared n i h (give list s room) =
-    cases (carriedOut n (give list s room)) (λ q. rw q (one-shared i s list (given-once n list s room (eqb-true _ 0 q)))) (λ q. rw q)
+    cases (carriedOut n (give list s room)) (λ q. rw q (once-shared (λ x. bytes s) i list (given-once n list s room (eqb-true _ 0 q)))) (λ q. rw q)
 turn-shared n i h (tick quota sends room) =
-    cases (carriedOut n (tick quota sends room)) (λ q. rw (q, one-here sends i 0 i n h (omega arith))) (λ q. rw q)
+    cases (carriedOut n (tick quota sends room)) (λ q. rw (q, tick-shared (λ x. hallTick (sends x)) n i h)) (λ q. rw q)
 
 -- A drive's share has one thing of each call that reaches it, and nothing else.
 pub share-once : (n i : ℕ) → i < n → (cs : List Call) → share n i cs ≡ shareByCalls n i cs
@@ -115,3 +100,14 @@ module _ (step : StepOn Given) (row : List Drive) (cs : List Call) (c : Call) (i
       ∙ ap (λ (os : List Outcome). os ++ pick reached (step (driveAfter (at row i) (outcomes step (at row i) earlier)) (gives i c) ∷ []) [])
       (sym (share-answers step row cs i h))
       ∙ ap (λ (d : Drive). own step row i cs ++ pick reached (step d (gives i c) ∷ []) []) (sym (share-drive step row cs i h))
+
+-- "its answers for lists without repeats are unaffected": the row after such calls, what their turns gave and each share are W-201's.
+pub calls-unaffected : (step : StepOn Given) (row : List Drive) (cs : List Call) → allOnce cs ≡ true
+    → (let n = length row in
+    let ts = turnsInTo16 n cs in
+    (hallAfter step row cs ≡ rowAfter step row ts)
+    × (hallTurned step row cs ≡ turned step row ts)
+    × ((i : ℕ) → share n i cs ≡ sharedOut i ts))
+calls-unaffected step row cs e =
+    let same = turns-unaffected (length row) cs e in
+    (hall-row step row cs ∙ ap (rowAfter step row) same, hall-turned step row cs ∙ ap (turned step row) same, λ i. ap (sharedOut i) same)

@@ -1,36 +1,18 @@
 -- For every step, every row of drives and every list of calls: a place ends with the drive, and its turns got the answers, that the
--- list of its share gives to the drive that stood there. Before that, the share of a hall tick and of two lists.
+-- list of its share gives to the drive that stood there. Before that, the share of two lists.
 use mathlib.Core.Path.{_≡_, refl, sym, ap, _∙_}
-use mathlib.Core.Bool.{Bool}
-use mathlib.Core.List.{List, [], _∷_, _++_, map, append-assoc}
-use Prim.Native.Nat.{ℕ, zero, suc, _+_, _<_}
-use native.Mathlib.Omega.{arith}
-use native.Mathlib.Nat.{not-suc-le-zero, le-of-suc-le-suc}
+use mathlib.Core.List.{List, [], _∷_, _++_, append-assoc}
+use Prim.Native.Nat.{ℕ, _+_, _<_}
 use lib.Dec.{eqb}
 use lib.ListN.{length}
 use lib.Seq.{lt-length-set}
-use borrow.Author.Tests.{eqb-true, eqb-false, eq-eqb, ne-eqb}
+use borrow.Author.Tests.{eqb-true, eqb-false, ne-eqb}
 use Rattle.numbers.specs.Laws.{cases}
-use Rattle.numbers.specs.Places.{placesFrom}
 use Rattle.damper.specs.declared.Drive.{Drive}
 use Rattle.damper.specs.Carry.{StepOn, outcomes, driveAfter, answersIn}
-use Rattle.hall.specs.Hall.{Call, callRefusal, Given, hallTick, Turn, turn, turnsOf, at, rowWith, turned, rowAfter, answersAfter, turnsIn, hallAfter, hallTurned, sharedOut, ownOf, share, own}
+use Rattle.hall.specs.Hall.{Call, callRefusal, Given, Turn, turnsOf, at, rowWith, turned, rowAfter, answersAfter, turnsIn, hallAfter, hallTurned, sharedOut, ownOf, share, own}
 use Rattle.hall.specs.Laws.{row-append, turned-append, row-length}
-use Rattle.hall.specs.TickLaws.{here, elsewhere}
-
--- The share of a hall tick: one turn of each drive.
-
-none-before : (sends : ℕ → Bool) (i j n : ℕ) → i < j → sharedOut i (map (λ x. turn (hallTick (sends x)) x) (placesFrom j n)) ≡ []
-unfolding sharedOut
-none-before sends i j zero h = refl
-none-before sends i j (suc n) h = rw (ne-eqb j i (λ f. omega arith)) (none-before sends i (j + 1) n (omega arith))
-
-pub one-here : (sends : ℕ → Bool) (i j k n : ℕ) → k < n → i ≡ j + k
-    → sharedOut i (map (λ x. turn (hallTick (sends x)) x) (placesFrom j n)) ≡ hallTick (sends i) ∷ []
-unfolding sharedOut
-one-here sends i j k zero h e = absurd (not-suc-le-zero h)
-one-here sends i j zero (suc n) h e = let same : j ≡ i = omega arith in rw (eq-eqb j i same, none-before sends i (j + 1) n (omega arith), same)
-one-here sends i j (suc k) (suc n) h e = rw (ne-eqb j i (λ f. omega arith)) (one-here sends i (j + 1) k n (le-of-suc-le-suc h) (omega arith))
+use Rattle.hall.specs.OnceLaws.{here, elsewhere}
 
 -- the share of turns in two parts
 pub shared-append : (i : ℕ) (ts us : List Turn) → sharedOut i (ts ++ us) ≡ sharedOut i ts ++ sharedOut i us
@@ -70,7 +52,7 @@ module _ (step : StepOn Given) where
   refused-answers row c answers r = rw (refused-turns (length row) c r)
 
   -- a list of calls does what the turns of them all do
-  hall-row : (row : List Drive) (cs : List Call) → hallAfter step row cs ≡ rowAfter step row (turnsIn (length row) cs)
+  pub hall-row : (row : List Drive) (cs : List Call) → hallAfter step row cs ≡ rowAfter step row (turnsIn (length row) cs)
   unfolding hallAfter rowAfter turnsIn
   hall-row row [] = refl
   hall-row row (c ∷ cs) =
@@ -80,7 +62,7 @@ module _ (step : StepOn Given) where
   pub hall-length : (row : List Drive) (cs : List Call) → length (hallAfter step row cs) ≡ length row
   hall-length row cs = ap length (hall-row row cs) ∙ row-length step row (turnsIn (length row) cs)
 
-  hall-turned : (row : List Drive) (cs : List Call) → hallTurned step row cs ≡ turned step row (turnsIn (length row) cs)
+  pub hall-turned : (row : List Drive) (cs : List Call) → hallTurned step row cs ≡ turned step row (turnsIn (length row) cs)
   unfolding hallTurned turned turnsIn
   hall-turned row [] = refl
   hall-turned row (c ∷ cs) =

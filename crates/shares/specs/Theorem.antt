@@ -5,7 +5,6 @@ use mathlib.Core.Path.{_≡_, refl, sym, _∙_}
 use mathlib.Core.Bool.{Bool, true, false, not, _&&_, _||_}
 use mathlib.Core.List.{List, [], _∷_, _++_, map}
 use Prim.Native.Nat.{ℕ, _+_, _<_}
-use native.Mathlib.Omega.{arith}
 use native.Mathlib.Nat.{zero-add}
 use lib.Dec.{ltb, eqb}
 use lib.ListN.{length, length-map}
@@ -31,13 +30,14 @@ use Rattle.invariant.specs.Effects.{report-after, step-accepted, step-refused, 
 use Rattle.hall.specs.Hall.{Call, give, tick, isTick, tickRefusal, callRefusal, Given, bytes, hallTick, turn, tickBytes, bytesIn, turnsOf, at, rowAfter, turnsIn, hallAfter, sharedOut, share, own}
 use Rattle.hall.specs.Quota.{dueNow, hallTicked, hallStep, allowed, allowedCall, allowedCalls}
 use Rattle.hall.specs.Laws.{event-passed, row-length}
+use Rattle.hall.specs.TickLaws.{tick-shared}
 use Rattle.history.specs.Readings as Readings
 use Rattle.history.specs.Readings.{judgement}
 use Rattle.history.specs.Claim.{Moment, Trace, momentOf, accepted, acceptedAs, reportIn, Waiting, dueIn, HallHolds, HallClaim, traceOn, reportsFrom}
 use Rattle.history.specs.Waits.{silent-in}
 use Rattle.history.specs.Facts.{Good, Facts, due-read, facts-tick, facts-wait}
 use Rattle.history.specs.Theorem.{facts, hall-holds, trace-length, fresh-good}
-use Rattle.shares.specs.Shares.{one-here, shared-append, turns-drive, share-drive, share-answers}
+use Rattle.shares.specs.Shares.{shared-append, turns-drive, share-drive, share-answers}
 use Rattle.shares.specs.SharedLog.{sharedLogFrom, sharedLog}
 
 -- the trace of the drive at place `i`, built from the hall's own turns: what they give, their answers and the positions that they leave
@@ -84,7 +84,7 @@ call-fits row i b (tick quota sends room) a =
     cases (eqb (tickRefusal n quota room) 0)
     (λ q.
     let only = and-left (allBelow n (λ x. implies (sends x) (dueNow (at row x)))) _ (rw q at a) in
-    rw (q, one-here sends i 0 i n b (omega arith))
+    rw (q, tick-shared (λ x. hallTick (sends x)) n i b)
     (and-intro (all-at (λ x. implies (sends x) (dueNow (at row x))) n only i b) refl))
     (λ q. rw q)
 

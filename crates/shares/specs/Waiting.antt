@@ -22,11 +22,12 @@ use Rattle.invariant.specs.Effects.{refusal-wf}
 use Rattle.hall.specs.Hall as H
 use Rattle.hall.specs.Hall.{Call, tick, callRefusal, Given, bytes, hallTick, tickBytes, bytesIn, turnsOf, at, turnsIn, hallAfter, rowAfter, sharedOut, share}
 use Rattle.hall.specs.Quota.{dueNow, hallTicked, hallStep, allowedCall, allowedCalls}
+use Rattle.hall.specs.TickLaws.{tick-shared}
 use Rattle.history.specs.Readings.{isTick, isRestart}
 use Rattle.history.specs.Claim.{Moment, Trace, momentOf, acceptedAs, reports, ticksIn, Waiting, traceOn}
 use Rattle.history.specs.Facts.{Good, good-time, judged}
 use Rattle.history.specs.Theorem.{facts}
-use Rattle.shares.specs.Shares.{one-here, shared-append, share-append, hall-length, share-drive, share-answers}
+use Rattle.shares.specs.Shares.{shared-append, share-append, hall-length, share-drive, share-answers}
 use Rattle.shares.specs.WaitLaws.{restart}
 use Rattle.shares.specs.Bound.{ticksGiven, dueAtEach, sentAtOne, restarted, sent-in-time}
 use Rattle.shares.specs.Theorem.{shareTrace, fitting, share-fits, tick-accepted, no-tick-in, facts-hall, share-good, finds-due, sent-reports}
@@ -187,7 +188,7 @@ share-finds-due row cs i quota sends room h fresh a c =
     let size : length row′ ≡ n = hall-length hallStep row cs in
     let both = allowed-parts cs last row a in
     let given : share n i last ≡ hallTick (sends i) ∷ [] =
-    shared-append i (turnsOf n (tick quota sends room)) [] ∙ rw (c, one-here sends i 0 i n h (omega arith)) in
+    shared-append i (turnsOf n (tick quota sends room)) [] ∙ rw (c, tick-shared (λ x. hallTick (sends x)) n i h) in
     let fit : fitting (at row′ i) (hallTick (sends i) ∷ []) ≡ true = rw (size, given) at (share-fits last row′ i (rw size h) (both .1)) in (
       share-grown row cs last i h ∙ rw given,
       finds-due (at row′ i) (shareTrace row i cs) (share-good row cs i h fresh (both .0)) (sends i)

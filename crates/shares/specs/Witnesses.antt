@@ -5,7 +5,7 @@ use mathlib.Core.Bool.{Bool, true, false, _||_}
 use mathlib.Core.List.{List, [], _∷_, _++_, map}
 use Prim.Native.Nat.{ℕ, _+_, _*_}
 use lib.Dec.{eqb}
-use lib.ListN.{length, replicate, set, take}
+use lib.ListN.{length, replicate, set, take, drop}
 use Rattle.table.specs.Table.{freshValues}
 use Rattle.rules.specs.Commands.{noCommands, interlocked}
 use Rattle.rules.specs.Report.{sent}
@@ -15,6 +15,7 @@ use Rattle.damper.specs.declared.Drive.{Drive}
 use Rattle.damper.specs.declared.Outcome.{Outcome}
 use Rattle.damper.specs.Record.{drive, last, noRun, freshDrive}
 use Rattle.hall.specs.Closed as Closed
+use Rattle.hall.specs.EventLaws.{turnsInTo16, allOnce}
 use Rattle.hall.specs.Hall as H
 use Rattle.hall.specs.Hall.{Call, give, callRefusal, bytes, hallTick, bytesIn, turnsOf, at, rowAfter, answersAfter, hallAfter, share, own}
 use Rattle.hall.specs.Quota.{hallStep, allowedCalls}
@@ -31,7 +32,7 @@ use Rattle.shares.specs.PageRead.{lineIn}
 
 -- `unfolding computation` opens drive and hall, and what is read off the calls
 unfoldable computation : Unit {0}
-unfolding Closed.computation reportsFrom hostLog
+unfolding Closed.computation allOnce turnsInTo16 reportsFrom hostLog
 computation = tt
 
 -- the event records, as bytes
@@ -103,6 +104,16 @@ pub shares : (share 3 0 calls ≡ map bytes (everyTick ∷ setpoint 128 ∷ []) 
     × (share 3 2 calls ≡ map bytes (everyTick ∷ setpoint 128 ∷ calibration ∷ []) ++ map hallTick (false ∷ true ∷ true ∷ []))
 unfolding computation
 shares = (refl, refl, refl)
+
+-- the fifth call alone has a repeat, and all of them do what W-201 has the others do
+abbrev others : List Call
+others = take 4 calls ++ drop 5 calls
+
+pub repeats : (allOnce calls ≡ false)
+    × (allOnce others ≡ true)
+    × (hallAfter hallStep hall calls ≡ rowAfter hallStep hall (turnsInTo16 3 others))
+unfolding computation
+repeats = (refl, refl, refl)
 
 -- each call's answer row, which held 9 at each place before
 abbrev roomOf : Call → ℕ
@@ -188,12 +199,12 @@ unnamed = (refl, refl)
 abbrev calibrating : List ℕ → List Drive
 calibrating list = hallAfter hallStep hall (give list calibration 3 ∷ [])
 
-abbrev runs : List Drive → List ℕ
-runs row = map (λ (d : Drive). d .run .left) row
+abbrev runs : List Drive → List (List ℕ)
+runs row = map (λ (d : Drive). d .run .kind ∷ d .run .left ∷ []) row
 
 pub pasted : (calibrating (2 ∷ 0 ∷ 2 ∷ []) ≡ hall)
     × (calibrating (2 ∷ 0 ∷ []) ≡ calibrating (0 ∷ 2 ∷ []))
-    × (runs (calibrating (2 ∷ 0 ∷ [])) ≡ 51 ∷ 0 ∷ 2 ∷ [])
+    × (runs (calibrating (2 ∷ 0 ∷ [])) ≡ (1 ∷ 51 ∷ []) ∷ (0 ∷ 0 ∷ []) ∷ (1 ∷ 2 ∷ []) ∷ [])
 unfolding computation
 pasted = (refl, refl, refl)
 

@@ -18,8 +18,8 @@ pub const HALL_LINE: usize = 29;
 ///
 /// Drives are numbered from 0, by their place in the row. One that is not listed keeps every field. The
 /// answer to entry i is the number `answers[i]`, which [`HallAnswer::from_number`] reads; further places keep
-/// their content. Reads hand no value back. A call that is refused itself, a list that names a drive twice
-/// among them, touches nothing.
+/// their content. Reads hand no value back. A call that is refused itself, as one whose list names a drive
+/// twice, touches nothing.
 ///
 /// ```
 /// use damper::{hall_event, Drive, Event, HallAnswer, HallRefusal, Refusal};

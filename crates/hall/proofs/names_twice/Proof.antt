@@ -68,7 +68,7 @@ loop-again c =
       met-once (l .k) list less (l .inv .1) (rw number at new),
       λ i.
           c .with-flag .ensures i
-          ∙ ap (λ (b : Bool). eqb i (c .before .before .before .entry .result) || b) (l .inv .2 i)
+          ∙ ap (λ (b : Bool). eqb (c .before .before .before .entry .result) i || b) (l .inv .2 i)
           ∙ rw number (sym (met-more i (l .k) list less)),
     )
 
