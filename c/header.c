@@ -678,6 +678,47 @@ static void hall_numbers(damper_drive fresh)
     CHECK(damper_hall_position(130879) == 255 && damper_hall_status(130879) == 63);
 }
 
+/* The position nearest to a percent, halves down: the lowest of those that are as near as any. */
+static unsigned nearest(unsigned percent)
+{
+    unsigned best = 0;
+    for (int position = 0; position <= 255; position++)
+        if (abs(100 * position - 255 * (int)percent) < abs(100 * (int)best - 255 * (int)percent))
+            best = (unsigned)position;
+    return best;
+}
+
+/* Every percent by each archive that makes a position of it: as BackupValue in a hall tick, by a normal write and an override to a list,
+   and by replay. */
+static void hall_percents(damper_drive fresh)
+{
+    damper_drive quick = with_param(with_param(fresh, DAMPER_NUMBER_MIN_REP_TIME, 1), DAMPER_NUMBER_RATE, 255);
+    const uint32_t listed[2] = {1, 2};
+    for (unsigned percent = 0; percent <= 100; percent++) {
+        const uint8_t property = DAMPER_LTE_PROPERTY(1), value = (uint8_t)percent;
+        const uint8_t bytes[3 * SIX] = {
+            DAMPER_MARK_0, DAMPER_MARK_1, DAMPER_KIND_LTE_SETPOINT, property, value, DAMPER_LTE_WRITE,
+            DAMPER_MARK_0, DAMPER_MARK_1, DAMPER_KIND_LTE_SETPOINT, property, value, DAMPER_LTE_OVERRIDE,
+            DAMPER_MARK_0, DAMPER_MARK_1, DAMPER_KIND_TICK, 0, 0, 0,
+        };
+        unsigned position = nearest(percent);
+        fill_hall(quick);
+        now.row[0] = with_param(quick, DAMPER_NUMBER_BACKUP_VALUE, percent);
+        CHECK(give_hall(3, listed, 1, bytes, SIX, 1) == 0 && give_hall(3, listed + 1, 1, bytes + SIX, SIX, 1) == 0);
+        CHECK(now.row[1].commands.setpoint == position && now.row[2].commands.toolpos == position);
+        CHECK(tick_hall(3, 3, 3) == 0);
+        for (unsigned i = 0; i < 3; i++)
+            CHECK(now.row[i].position == position);
+
+        uint8_t words[3];
+        uint32_t codes[3];
+        damper_drive d = damper_replay(quick, bytes, sizeof bytes, words, 3, codes, 3).drive;
+        CHECK(d.commands.setpoint == position && d.commands.toolpos == position && d.position == position);
+        d = damper_replay(with_param(quick, DAMPER_NUMBER_BACKUP_VALUE, percent), bytes + 2 * SIX, SIX, words, 3, codes, 3).drive;
+        CHECK(d.position == position);
+    }
+}
+
 /* Document 01's row m1 in a hall of three with a quota of 1, so that it is decided who is sent: one a tick, in order. */
 static void hall_quota(damper_drive fresh)
 {
@@ -809,6 +850,7 @@ int main(void)
     hall_events(fresh);
     hall_refusals(fresh);
     hall_numbers(fresh);
+    hall_percents(fresh);
     hall_quota(fresh);
     hall_page(fresh);
     null_pointers(fresh);

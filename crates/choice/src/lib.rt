@@ -12,6 +12,9 @@ const REPORT: u32 = 65536;
 // The most drives of a row.
 const MOST: u32 = 64;
 
+// The last place of such a row, all of whose binary digits are 1.
+const LAST: u32 = 63;
+
 // What the drive at a place is compared by: a due one that waited longer has the larger key and, among equals, that with the lower
 // number. One that is not due has 0.
 pub fn key(due: bool, wait: u16, place: usize) -> u32
@@ -19,14 +22,14 @@ pub fn key(due: bool, wait: u16, place: usize) -> u32
     ensures { λ r. ⌜ r ≡ keyOf due wait place ⌝ }
 {
     let waited = MOST * (wait as u32 + 1);
-    pick32(due, waited + (MOST - 1 - place as u32), 0)
+    pick32(due, waited + (LAST - place as u32), 0)
 }
 
 // The place that a key is of.
 fn place_of(key: u32) -> usize
     ensures { λ r. ⌜ r ≡ placeOf key ⌝ }
 {
-    (MOST - 1 - key % MOST) as usize
+    (LAST - (key & LAST)) as usize
 }
 
 // One less, and of none none.

@@ -1,3 +1,4 @@
 -- Documents 01 and 02: percents and positions, K, Low to High, one move and the motor.
 pub mod Motion
 pub mod Laws
+pub mod Product

@@ -4,11 +4,12 @@ ghost use Prim.Native.Nat.{_≤_};
 ghost use Rattle.motion.specs.Motion.{toPosition, toPercent, runTicks, within, toward, motor};
 use numbers::pick8;
 
+// 2611 is 2.55 in 1024ths, rounded down, and 511 of them more make it the nearest, halves down.
 pub fn to_position(percent: u8) -> u8
     requires { ⌜ percent ≤ 100 ⌝ }
     ensures { λ r. ⌜ r ≡ toPosition percent ⌝ }
 {
-    ((510 * (percent as u16) + 99) / 200) as u8
+    ((2611 * (percent as u32) + 511) >> 10) as u8
 }
 
 pub fn to_percent(position: u8) -> u8

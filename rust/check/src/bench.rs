@@ -35,9 +35,10 @@ fn sample(what: &str, n: usize) -> Vec<u8> {
 }
 
 /// For a count of instructions, by `proved`, `model`, `plain` or none of them: a replay of n records; or, as
-/// `hall`, `list` or `page`, hall ticks with quota 64, event calls or shift pages for n drives, 64 in a call.
+/// `hall`, `backup`, `list` or `page`, hall ticks with quota 64, of any drives or of those that BackupValue
+/// leads, event calls or shift pages for n drives, 64 in a call.
 pub fn spend(who: &str, what: &str, n: usize) {
-    if matches!(what, "hall" | "list" | "page") {
+    if matches!(what, "hall" | "backup" | "list" | "page") {
         return spend_on_halls(who, what, n);
     }
     let bytes = sample(what, n);
@@ -54,6 +55,9 @@ pub fn spend(who: &str, what: &str, n: usize) {
 
 fn spend_on_halls(who: &str, what: &str, n: usize) {
     let (mut rows, list, events) = (lived(4), scattered(), listed_events());
+    if what == "backup" {
+        leave_to_backup(&mut rows);
+    }
     let (mut numbers, mut answers, mut page) = ([0; HALL_MOST], [0; HALL_MOST], [0; HALL_MOST * LINE]);
     let hall: &dyn Hall = match who {
         "proved" => &Proved,
@@ -64,7 +68,7 @@ fn spend_on_halls(who: &str, what: &str, n: usize) {
     for i in 0..n / HALL_MOST {
         let row = rows.chunks_mut(HALL_MOST).nth(i % 4).unwrap();
         match what {
-            "hall" => hall.tick(row, HALL_MOST as u32, &mut numbers),
+            "hall" | "backup" => hall.tick(row, HALL_MOST as u32, &mut numbers),
             "page" => hall.page(row, &mut page),
             _ => hall.event(row, &list, &events[i % events.len()], &mut answers),
         };
@@ -231,6 +235,16 @@ fn all_or_none_due(all: bool) -> Vec<Drive> {
     rows
 }
 
+/// Takes each drive's commands and run away, so that backup rules, and has BackupValue lead it.
+fn leave_to_backup(rows: &mut [Drive]) {
+    for (percent, drive) in (0..=100).cycle().zip(rows) {
+        let fresh = Model.fresh();
+        (drive.commands, drive.age, drive.run) = (fresh.commands, fresh.age, fresh.run);
+        drive.params[Param::BackupMode as usize] = 0;
+        drive.params[Param::BackupValue as usize] = percent;
+    }
+}
+
 /// Hall ticks of 64. Which due drives go is free but for one, so how many each of the three sends may differ.
 fn quotas() {
     for all in [false, true] {
@@ -251,6 +265,10 @@ fn quotas() {
             }
         }
     }
+    let mut first = all_or_none_due(false);
+    leave_to_backup(&mut first);
+    let what = "hall tick of 64, quota 64, none due, all by BackupValue";
+    same(&on_halls(what, &first, HALL_MOST, 1, |hall, _, row, numbers| hall.tick(row, 64, numbers)));
     let what = "hall tick of 1";
     same(&on_halls(what, &lived(HALLS), 1, 1, |hall, _, row, numbers| hall.tick(row, 1, numbers)));
 }
