@@ -65,7 +65,8 @@ fn edited(source: &str, edits: &[Edit], kind: &str, field: &str, target: &str) {
             assert!(times == 1, "{name}: `{old}` occurs {times} times in {source}");
             wrong = wrong.replace(old, new);
         }
-        writeln!(text, "#[allow(non_snake_case, unused, clippy::all)]\nmod {name} {{\n{wrong}}}").unwrap();
+        writeln!(text, "#[allow(non_snake_case, unused, clippy::all)]\npub mod {name} {{\n{wrong}}}")
+            .unwrap();
     }
     fs::write(target, text).unwrap();
 }

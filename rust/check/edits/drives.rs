@@ -15,6 +15,10 @@ const RUN_LENGTH: &str = "255u16.div_ceil(rate) as u8";
 const CHANGE: &str = "100 * distance >= 255 * u32::from(self.params.get(Param::ActPosCov))";
 const ADVANCED: &str = "let (rank, report) = self.advance();";
 const SETPOINT: &str = "self.bus = Some(Setpoint { position, age: 0 }),";
+const TO_POSITION: &str = "((255 * u16::from(percent) + 49) / 100) as u8";
+const NORMAL_WRITE: &str = "position: percent_to_position(percent)";
+const OVERRIDE: &str = "Some(percent_to_position(percent))";
+const BACKUP: &str = "percent_to_position(self.params.byte(Param::BackupValue))";
 const TO_PERCENT: &str = "(100 * u16::from(position) + 127) / 255";
 
 const fn edit(name: &'static str, changes: &'static [(&'static str, &'static str)]) -> Edit {
@@ -88,25 +92,47 @@ pub const EDITS: &[Edit] = &[
     // Document 02, W-202: "the nearest position, halves down"
 
     // A normal write rounded down.
-    edit(
-        "NormalWriteRoundedDown",
-        &[("position: percent_to_position(percent)", "position: (255 * u16::from(percent) / 100) as u8")],
-    ),
+    edit("NormalWriteRoundedDown", &[(NORMAL_WRITE, "position: (255 * u16::from(percent) / 100) as u8")]),
     // An override rounded down.
-    edit(
-        "OverrideRoundedDown",
-        &[("Some(percent_to_position(percent))", "Some((255 * u16::from(percent) / 100) as u8)")],
-    ),
+    edit("OverrideRoundedDown", &[(OVERRIDE, "Some((255 * u16::from(percent) / 100) as u8)")]),
     // BackupValue rounded down.
-    edit(
-        "BackupRoundedDown",
-        &[(
-            "percent_to_position(self.params.byte(Param::BackupValue))",
-            "(255 * self.params.get(Param::BackupValue) / 100) as u8",
-        )],
-    ),
+    edit("BackupRoundedDown", &[(BACKUP, "(255 * self.params.get(Param::BackupValue) / 100) as u8")]),
     // Halves up, in all three.
     edit("HalvesUp", &[("u16::from(percent) + 49", "u16::from(percent) + 50")]),
+    // Document 02, W-206: "by a multiplication, an addition and a shift". With factor 2,611 and shift 10 the
+    // addends 477 to 513 serve.
+
+    // The addend one too low, which misses 81 %, and one too high, which misses 10 %.
+    edit("AddendLess", &[(TO_POSITION, "((2611 * u32::from(percent) + 476) >> 10) as u8")]),
+    edit("AddendMore", &[(TO_POSITION, "((2611 * u32::from(percent) + 514) >> 10) as u8")]),
+    // The same in one of the three uses alone.
+    edit(
+        "NormalWriteAddendLess",
+        &[(NORMAL_WRITE, "position: ((2611 * u32::from(percent) + 476) >> 10) as u8")],
+    ),
+    edit(
+        "NormalWriteAddendMore",
+        &[(NORMAL_WRITE, "position: ((2611 * u32::from(percent) + 514) >> 10) as u8")],
+    ),
+    edit("OverrideAddendLess", &[(OVERRIDE, "Some(((2611 * u32::from(percent) + 476) >> 10) as u8)")]),
+    edit("OverrideAddendMore", &[(OVERRIDE, "Some(((2611 * u32::from(percent) + 514) >> 10) as u8)")]),
+    edit(
+        "BackupAddendLess",
+        &[(BACKUP, "((2611 * u32::from(self.params.get(Param::BackupValue)) + 476) >> 10) as u8")],
+    ),
+    edit(
+        "BackupAddendMore",
+        &[(BACKUP, "((2611 * u32::from(self.params.get(Param::BackupValue)) + 514) >> 10) as u8")],
+    ),
+    // The factor one too low.
+    edit("FactorLess", &[(TO_POSITION, "((2610 * u32::from(percent) + 495) >> 10) as u8")]),
+    // The shift one too low, the factor and the addend halved: 255 × 512 / 100 is about 1,306.
+    edit("ShiftLess", &[(TO_POSITION, "((1306 * u32::from(percent) + 248) >> 9) as u8")]),
+    // The product kept in 16 bits, of the 18 that it needs.
+    edit(
+        "ProductOf16Bits",
+        &[(TO_POSITION, "(2611u16.wrapping_mul(percent.into()).wrapping_add(495) >> 10) as u8")],
+    ),
     // Admitted by demand 3 alone, or out of its sight
 
     // The percent of a read rounded down.

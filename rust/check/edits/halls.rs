@@ -12,6 +12,7 @@ const JUDGED_EVENT: &str = "answers.len());";
 const JUDGED_TICK: &str = "numbers.len(), quota);";
 const JUDGE_TICK: &str = "let refusal = judge_tick(row.len(), numbers.len(), quota);";
 const ADVANCE: &str = "let due = advance(row, numbers);";
+const ADVANCE_ONE: &str = "Model::advance(drive)";
 /// A row that the wrong hall takes and a set of drives does not.
 const ADVANCE_AT_MOST_64: &str = "let row = if row.len() > MOST { &mut row[..MOST] } else { row };
         let due = advance(row, numbers);";
@@ -606,6 +607,16 @@ pub const EDITS: &[Edit] = &[
             let report = |drive: &Drive| early.then(|| Model::ruling_and_status(drive).unwrap().1);
             *number = match Model::advance(drive).map(|_| report(drive)) {",
         )],
+    ),
+    // The percents of W-206: events are given by the right drive, and the hall tick, which is other machine
+    // code, takes BackupValue to a position as a wrong drive does
+    edit("TickAddendLess", &[(ADVANCE_ONE, "crate::wrong::edited::AddendLess::Model::advance(drive)")]),
+    edit("TickAddendMore", &[(ADVANCE_ONE, "crate::wrong::edited::AddendMore::Model::advance(drive)")]),
+    edit("TickFactorLess", &[(ADVANCE_ONE, "crate::wrong::edited::FactorLess::Model::advance(drive)")]),
+    edit("TickShiftLess", &[(ADVANCE_ONE, "crate::wrong::edited::ShiftLess::Model::advance(drive)")]),
+    edit(
+        "TickProductOf16Bits",
+        &[(ADVANCE_ONE, "crate::wrong::edited::ProductOf16Bits::Model::advance(drive)")],
     ),
     // What a drive that is due and held keeps
     edit("HeldResetsSince", &[(HELD, "drive.wait = drive.wait.saturating_add(1); drive.since = 0;")]),

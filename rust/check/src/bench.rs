@@ -2,7 +2,7 @@
 //! they alternate, and the median of the rounds counts.
 
 use crate::event::Event;
-use crate::gen::records;
+use crate::gen::{leave_to_backup_value, records};
 use crate::hall::{HallModel, LINE};
 use crate::model::Model;
 use crate::plain::Plain;
@@ -235,12 +235,10 @@ fn all_or_none_due(all: bool) -> Vec<Drive> {
     rows
 }
 
-/// Takes each drive's commands and run away, so that backup rules, and has BackupValue lead it.
+/// BackupValue rules each drive, with each percent in turn.
 fn leave_to_backup(rows: &mut [Drive]) {
     for (percent, drive) in (0..=100).cycle().zip(rows) {
-        let fresh = Model.fresh();
-        (drive.commands, drive.age, drive.run) = (fresh.commands, fresh.age, fresh.run);
-        drive.params[Param::BackupMode as usize] = 0;
+        leave_to_backup_value(drive);
         drive.params[Param::BackupValue as usize] = percent;
     }
 }

@@ -154,6 +154,20 @@ pub const CASES: &[Case] = &[
         "5AC308750001 5AC308740002 5AC302000000 T 5AC302050000 T 5AC302060000 T",
         &[(4, "tick 0 1 0 0"), (6, "tick 5 1 1 -"), (8, "tick 6 1 1 0")],
     ),
+    // Document 02, W-206
+    case(
+        "10 and 81 %, which a higher and a lower addend miss, by each way",
+        "5AC308CB00FF 5AC303330A00 T 5AC303335100 T 5AC303330A01 T 5AC303335101 T 5AC309000000 \
+          5AC30879000A T 5AC308790051 T",
+        &[
+            (3, "tick 25 1 1 -"),
+            (5, "tick 207 1 1 -"),
+            (7, "tick 25 2 2 -"),
+            (9, "tick 207 2 1 -"),
+            (12, "tick 25 0 2 -"),
+            (14, "tick 207 0 1 -"),
+        ],
+    ),
     // Runs
     case(
         "calibration over a sync run takes K anew",

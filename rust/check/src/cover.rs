@@ -3,6 +3,7 @@
 use crate::flag::Flag;
 use crate::gen::Origin;
 use crate::model::{percent_to_position, Model};
+use crate::percents::{backup_value_reached, Percents};
 use crate::subject::Subject;
 use crate::table::Param;
 use damper::{Answer, Drive, Rank, Refusal, Status};
@@ -10,6 +11,7 @@ use damper::{Answer, Drive, Rank, Refusal, Status};
 const RUN_ENDS: [&str; 5] = ["its ticks passed", "fault", "forcing", "restart", "new calibration"];
 const REASONS: [&str; 4] = ["no report yet", "change of value", "status", "RepPer"];
 const PERCENTS: [&str; 3] = ["normal write", "override", "tick by backup"];
+const WAYS: [&str; 3] = ["by normal write", "by override", "as BackupValue where a tick by backup ends"];
 const UNCHANGED: [&str; 2] = ["silent after the wait", "report for another reason"];
 
 #[derive(Default)]
@@ -28,6 +30,8 @@ pub struct Cover {
     halves: [u64; 3],
     /// Percents nearer to the upper of two positions, likewise.
     raised: [u64; 3],
+    /// All percents, likewise.
+    percents: [Percents; 3],
     /// Reads of a position nearer to the upper of two percents.
     raised_reads: u64,
     /// Ticks whose distance from the last report is ActPosCOV as a position and no change by step 4.
@@ -77,10 +81,9 @@ impl Cover {
         if let Some(status) = report {
             self.reasons[reason(before, after.position, status)] += 1;
         }
-        let by_value = rank == Rank::Backup && param(before, Param::BackupMode) == 0;
-        let value = param(before, Param::BackupValue) as u8;
-        if by_value && after.position == percent_to_position(value) {
+        if let Some(value) = backup_value_reached(before, rank, after.position) {
             self.percent(2, value);
+            self.percents[2].reached(before, value);
         }
         if cov_as_position(before, after.position) {
             match report {
@@ -101,7 +104,10 @@ impl Cover {
         let ran = before.run.kind != 0;
         let in_time = |r: &Drive| r.age <= param(r, Param::Timeout);
         match bytes[2] {
-            3 if bytes[5] < 2 => self.percent(bytes[5].into(), bytes[4]),
+            3 if bytes[5] < 2 => {
+                self.percent(bytes[5].into(), bytes[4]);
+                self.percents[usize::from(bytes[5])].stored(bytes[4]);
+            }
             7 if ran && after.run.kind == 0 => self.run_ends[1] += 1,
             4 if ran && after.run.kind == 0 => self.run_ends[2] += 1,
             9 if ran => self.run_ends[3] += 1,
@@ -120,10 +126,11 @@ impl Cover {
         let reasons = (0..4).map(|i| (format!("report: {}", REASONS[i]), self.reasons[i]));
         let halves = (0..3).map(|i| (format!("percent half way: {}", PERCENTS[i]), self.halves[i]));
         let raised = (0..3).map(|i| (format!("percent rounded up: {}", PERCENTS[i]), self.raised[i]));
+        let each = self.percents.iter().zip(WAYS).flat_map(|(percents, way)| percents.counts(way));
         let reads = [("read rounded up".to_string(), self.raised_reads)];
         let unchanged =
             (0..2).map(|i| (format!("ActPosCOV as a position: {}", UNCHANGED[i]), self.unchanged[i]));
-        let percents = halves.chain(raised).chain(reads).chain(unchanged);
+        let percents = halves.chain(raised).chain(each).chain(reads).chain(unchanged);
         let origins = Origin::ALL.map(|o| (format!("record: {o:?}"), self.origins[o as usize]));
         let flags = Flag::ALL.map(|f| (format!("refused for the flag {f:?}"), self.flags[f as usize]));
         let events = refusals.chain(ranks).chain(ends).chain(revived).chain(reasons);

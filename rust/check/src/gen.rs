@@ -3,11 +3,11 @@
 //! Lists are biased to accepted events and to the limits where drives go wrong: small MinRepTime,
 //! Timeout and RepPer, bursts of ticks that stop about a limit, positions on the grid of 51 where
 //! 100 × the distance can equal 255 × ActPosCOV, positions about ActPosCOV off the last report, percents half
-//! way between two positions.
+//! way between two positions or close to that, drives left to BackupValue.
 
 use crate::event::{Event, MARK};
 use crate::flag::Flag;
-use crate::model::Model;
+use crate::model::{percent_to_position, Model};
 use crate::subject::Subject;
 use crate::table::{Param, TABLE};
 use damper::{Drive, Last};
@@ -96,7 +96,9 @@ impl Origin {
 const GRID: [u8; 6] = [0, 51, 102, 153, 204, 255];
 const GRID_PERCENTS: [u8; 6] = [0, 20, 40, 60, 80, 100];
 /// Percents half way between two positions.
-const HALVES: [u8; 5] = [10, 30, 50, 70, 90];
+pub const HALVES: [u8; 5] = [10, 30, 50, 70, 90];
+/// Further percents at which a multiplication, addition and shift go wrong with a number that is one off.
+pub const ONE_OFF: [u8; 6] = [41, 61, 72, 81, 92, 99];
 
 pub struct Gen {
     pub rng: Rng,
@@ -217,6 +219,9 @@ impl Gen {
         if record.commands.stored == 1 && record.age > timeout && self.rng.once_in(8) {
             return self.revival(record);
         }
+        if left_to_backup_value(record) && self.rng.once_in(5) {
+            return self.backup_value(record);
+        }
         match self.rng.below(100) {
             0..24 => Bytes::event(1, 0, 0, 0),
             24..37 => {
@@ -280,10 +285,11 @@ impl Gen {
     }
 
     fn percent(&mut self) -> u8 {
-        match self.rng.below(6) {
+        match self.rng.below(14) {
             _ if self.grid => self.rng.pick(&GRID_PERCENTS),
             0..3 => self.rng.pick(&GRID_PERCENTS),
-            3 => self.rng.pick(&HALVES),
+            3 | 4 => self.rng.pick(&HALVES),
+            5 | 6 => self.rng.pick(&ONE_OFF),
             _ => self.rng.below(101) as u8,
         }
     }
@@ -292,9 +298,18 @@ impl Gen {
         let mode = record.params[Param::DamperMode as usize] as u8;
         let property =
             if self.rng.once_in(12) { 51 + self.rng.below(4) as u8 } else { mode.wrapping_add(50) };
-        let command = self.rng.pick(&[0, 0, 0, 1, 1, 2, 2]);
+        let command = self.rng.pick(&[0, 0, 0, 1, 1, 1, 2, 2]);
         let percent = if command == 2 { self.rng.byte() } else { self.percent() };
         Bytes::event(3, property, percent, command)
+    }
+
+    /// BackupValue, and mostly as many ticks as take the damper there, or one or two more.
+    fn backup_value(&mut self, record: &Drive) -> Bytes {
+        let percent = self.percent();
+        let distance = u16::from(percent_to_position(percent).abs_diff(record.position));
+        let ticks = distance.div_ceil(record.params[Param::Rate as usize].max(1));
+        self.burst = u32::from(ticks.min(64)) + self.rng.below(3);
+        write(Param::BackupValue, percent.into())
     }
 
     fn hand(&mut self, record: &Drive) -> Bytes {
@@ -420,12 +435,24 @@ impl Gen {
             let any = self.rng.between(1, k);
             r.run.left = self.rng.pick(&[1, 2.min(k), k, any]) as u8;
         }
+        if self.rng.once_in(6) {
+            leave_to_backup_value(&mut r);
+            self.position_about_backup_value(&mut r);
+        }
         r.since = self.count_about(min_rep_time, rep_per);
         if !self.rng.once_in(4) {
             r.last = Last { reported: 1, position: self.last_position(&r), status: self.last_status(&r) };
         }
         r.wait = self.wait();
         r
+    }
+
+    /// At times the position is that of BackupValue or about so.
+    fn position_about_backup_value(&mut self, r: &mut Drive) {
+        if self.rng.once_in(2) {
+            let there = percent_to_position(r.params[Param::BackupValue as usize] as u8);
+            r.position = there.saturating_add(self.rng.below(3) as u8).saturating_sub(1);
+        }
     }
 
     /// Mostly none or few, so that many are equal, or about 65,535.
@@ -552,6 +579,21 @@ impl Gen {
             }
         }
     }
+}
+
+/// BackupValue rules.
+fn left_to_backup_value(record: &Drive) -> bool {
+    let c = record.commands;
+    let bus_active = c.stored == 1 && record.age <= record.params[Param::Timeout as usize];
+    let others = c.fault == 1 || c.forcing > 1 || record.run.kind != 0 || c.hand == 1 || c.tool == 1;
+    !others && !bus_active && record.params[Param::BackupMode as usize] == 0
+}
+
+/// Takes the commands and the run away, so that BackupValue rules.
+pub fn leave_to_backup_value(r: &mut Drive) {
+    let fresh = Model.fresh();
+    (r.commands, r.age, r.run) = (fresh.commands, fresh.age, fresh.run);
+    r.params[Param::BackupMode as usize] = 0;
 }
 
 pub fn write(param: Param, value: u16) -> Bytes {

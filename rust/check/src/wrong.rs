@@ -23,7 +23,8 @@ pub fn named(name: &str) -> &'static dyn Subject {
     all().find(|wrong| wrong.name == name).unwrap_or_else(|| panic!("no wrong drive {name}")).drive
 }
 
-mod edited {
+/// By its name each of these is there for a wrong hall, whose tick alone goes by it.
+pub(crate) mod edited {
     use super::Wrong;
 
     include!(concat!(env!("OUT_DIR"), "/drives.rs"));

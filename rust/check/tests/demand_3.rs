@@ -100,6 +100,24 @@ fn other_positions_break_it() {
     }
 }
 
+/// So does one that a wrong addend takes elsewhere: 476 at 81 %, 514 at 10 %.
+#[test]
+fn wrong_addends_break_it() {
+    let moved_wrong =
+        |name, event| found(wrong::named(name), &[vec![event], ticks(50)].concat()).has(Clause::Move);
+    let ways = |percent| {
+        [Bytes::event(3, 51, percent, 0), Bytes::event(3, 51, percent, 1), Bytes::event(8, 121, 0, percent)]
+    };
+    let less = ["NormalWriteAddendLess", "OverrideAddendLess", "BackupAddendLess"];
+    let more = ["NormalWriteAddendMore", "OverrideAddendMore", "BackupAddendMore"];
+    for (percent, in_all, in_one) in [(81, "AddendLess", less), (10, "AddendMore", more)] {
+        for (event, in_one) in ways(percent).into_iter().zip(in_one) {
+            assert!(moved_wrong(in_all, event));
+            assert!(moved_wrong(in_one, event));
+        }
+    }
+}
+
 /// No clause of the checker is idle: each is broken by a wrong drive on a fixed list.
 #[test]
 fn every_clause_is_broken_somewhere() {

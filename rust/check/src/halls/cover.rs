@@ -3,8 +3,10 @@
 use crate::check::Turn;
 use crate::event::Event;
 use crate::hall::{numbers_of, Drives, Ticked, LINE};
+use crate::model::Model;
+use crate::percents::{backup_value_reached, Percents};
 use crate::table::Param;
-use damper::{Drive, HallTick};
+use damper::{Answer, Drive, HallTick};
 use std::cmp::Ordering;
 
 macro_rules! counters {
@@ -14,6 +16,8 @@ macro_rules! counters {
             /// At index n, answers n to an entry of a list.
             answers: [u64; 14],
             $($name: u64,)*
+            /// BackupValue where a hall tick by backup ends.
+            backup: Percents,
             lines: Lines,
         }
 
@@ -26,7 +30,9 @@ macro_rules! counters {
             /// Every count with its name.
             pub fn counts(&self) -> Vec<(String, u64)> {
                 let answers = (0..14).map(|n| (format!("answer {n}"), self.answers[n]));
-                answers.chain([$(($text.to_string(), self.$name)),*]).chain(self.lines.counts()).collect()
+                let backup = self.backup.counts("as BackupValue where a hall tick by backup ends");
+                let named = [$(($text.to_string(), self.$name)),*];
+                answers.chain(named).chain(backup).chain(self.lines.counts()).collect()
             }
         }
     };
@@ -370,6 +376,7 @@ impl HallCover {
         add(&mut self.mixed_row, broken > 0 && broken < drives);
         self.choice(row, quota, ticked.due, numbers, sent);
         self.waits(row, ticked.due, numbers, sent);
+        self.backups(row);
         for i in numbers_of(ticked.due) {
             let (goes, before) = (sent >> i & 1 == 1, turns[i].count());
             add(&mut self.held_again, !goes && before > 0);
@@ -430,6 +437,18 @@ impl HallCover {
             add(&mut self.wait_of_sent, goes && drive.wait > 0);
             add(&mut self.wait_of_broken, broken && drive.wait > 0);
             add(&mut self.wait_of_not_due, !is_due && !broken && drive.wait > 0);
+        }
+    }
+
+    /// Drives that a hall tick, by the first three steps of a tick, takes to their BackupValue.
+    fn backups(&mut self, row: &[Drive]) {
+        for drive in row {
+            let Answer::Tick { rank, position, .. } = Model::give(&mut { *drive }, Ok(Event::Tick)) else {
+                continue;
+            };
+            if let Some(value) = backup_value_reached(drive, rank, position) {
+                self.backup.reached(drive, value);
+            }
         }
     }
 
