@@ -688,9 +688,9 @@ static unsigned nearest(unsigned percent)
     return best;
 }
 
-/* Every percent by each archive that makes a position of it: as BackupValue in a hall tick, by a normal write and an override to a list,
-   and by replay. */
-static void hall_percents(damper_drive fresh)
+/* The position of every percent by each archive that makes one of it: as BackupValue in a hall tick, by a normal write and an override to
+   a list, and in the three ways by step and by replay. */
+static void percent_positions(damper_drive fresh)
 {
     damper_drive quick = with_param(with_param(fresh, DAMPER_NUMBER_MIN_REP_TIME, 1), DAMPER_NUMBER_RATE, 255);
     const uint32_t listed[2] = {1, 2};
@@ -714,8 +714,10 @@ static void hall_percents(damper_drive fresh)
         uint32_t codes[3];
         damper_drive d = damper_replay(quick, bytes, sizeof bytes, words, 3, codes, 3).drive;
         CHECK(d.commands.setpoint == position && d.commands.toolpos == position && d.position == position);
-        d = damper_replay(with_param(quick, DAMPER_NUMBER_BACKUP_VALUE, percent), bytes + 2 * SIX, SIX, words, 3, codes, 3).drive;
-        CHECK(d.position == position);
+        damper_drive backed = with_param(quick, DAMPER_NUMBER_BACKUP_VALUE, percent);
+        CHECK(damper_replay(backed, bytes + 2 * SIX, SIX, words, 3, codes, 3).drive.position == position);
+        CHECK(tick(backed).drive.position == position && with_tool(quick, percent).commands.toolpos == position);
+        CHECK(damper_step(quick, bytes, SIX).drive.commands.setpoint == position);
     }
 }
 
@@ -850,7 +852,7 @@ int main(void)
     hall_events(fresh);
     hall_refusals(fresh);
     hall_numbers(fresh);
-    hall_percents(fresh);
+    percent_positions(fresh);
     hall_quota(fresh);
     hall_page(fresh);
     null_pointers(fresh);

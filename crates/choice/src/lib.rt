@@ -12,8 +12,8 @@ const REPORT: u32 = 65536;
 // The most drives of a row.
 const MOST: u32 = 64;
 
-// The last place of such a row, all of whose binary digits are 1.
-const LAST: u32 = 63;
+// The last place of such a row. Its six binary digits are 1, so that a number `& LAST` is its remainder by 64.
+const LAST: u32 = MOST - 1;
 
 // What the drive at a place is compared by: a due one that waited longer has the larger key and, among equals, that with the lower
 // number. One that is not due has 0.

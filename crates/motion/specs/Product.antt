@@ -1,4 +1,5 @@
--- Document 02, W-206: a percent becomes a position by a multiplication, an addition and a shift. Which factor, addend and shift serve.
+-- Document 02, W-206: a percent becomes a position by a multiplication, an addition and a shift. Which factors and addends serve, with a
+-- shift of at most 10.
 use mathlib.Core.Path.{_≡_, sym, ap, _∙_, subst}
 use Prim.Native.Nat.{ℕ, zero, suc, _+_, _-_, _*_, _/_, _^_, _<_, _≤_}
 use native.Mathlib.Omega.{arith}
@@ -17,11 +18,11 @@ module _ (factor addend shift : ℕ) where
   abbrev pub serves : Type 0
   serves = (p : ℕ) → p ≤ 100 → right p
 
-  -- four of them
+  -- four of them: 1 and 81 % are rounded furthest up, 10 and 70 % furthest down
   abbrev pub four : Type 0
   four = right 1 × right 10 × right 70 × right 81
 
--- what is right with a shift is right, doubled, with the next
+-- What is right with a shift is right, doubled, with the next.
 doubled : (f a s p : ℕ) → right f a s p → right (2 * f) (2 * a) (suc s) p
 doubled f a s p e =
     let twice : 2 * f * p + 2 * a ≡ 2 * (f * p + a) = ap (λ (x : ℕ). x + 2 * a) (mul-assoc 2 f p) ∙ sym (mul-add 2 (f * p) a) in
@@ -30,6 +31,7 @@ doubled f a s p e =
 four-doubled : (f a s : ℕ) → four f a s → four (2 * f) (2 * a) (suc s)
 four-doubled f a s e = (doubled f a s 1 (e .0), doubled f a s 10 (e .1), doubled f a s 70 (e .2), doubled f a s 81 (e .3))
 
+-- With shift 10 they leave one factor and 37 addends.
 at-ten : (f a : ℕ) → four f a 10 → (f ≡ 2611) × (477 ≤ a) × (a ≤ 513)
 unfolding M.toPosition
 at-ten f a e =
@@ -41,7 +43,7 @@ at-ten f a e =
     let least : 2611 ≤ f = omega arith in
     (omega arith, omega arith, omega arith)
 
--- with a lower shift they are not right: doubled up to 10 the factor would be even
+-- With a lower shift they are not right: doubled up to 10, the factor would be even.
 none-below : (n f a s : ℕ) → n + s ≡ 9 → four f a s → ⊥
 none-below zero f a s d e =
     let nine : s ≡ 9 = omega arith in
@@ -68,7 +70,7 @@ up-furthest p t e k = let b : t ≤ 9 = omega arith in omega arith
 down-furthest : (p t : ℕ) → p + 30 ≡ 20 * t → 10 ≤ p
 down-furthest p t e = let b : 2 ≤ t = omega arith in omega arith
 
--- and each of these serves
+-- Each of these addends serves.
 pub served : (a : ℕ) → 477 ≤ a → a ≤ 513 → serves 2611 a 10
 unfolding M.toPosition
 served a l h p k =
@@ -83,7 +85,8 @@ served a l h p k =
     (λ e. let m = eqb-false (51 * p + 9) (20 * q + 19) e in let b : 51 * p + 9 ≤ 20 * q + 18 = omega arith in omega arith) in
     omega arith
 
--- What is right for four percents serves.
+-- With a shift of at most 10, what is right for the four is right for all 101. (With 11 it need not be: factor 5223 and addend 975 are
+-- right for the four and wrong for 90 %.)
 pub four-serve : (f a s : ℕ) → s ≤ 10 → four f a s → serves f a s
 four-serve f a s l e =
     let only = four-only f a s l e in

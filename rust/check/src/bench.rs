@@ -36,7 +36,7 @@ fn sample(what: &str, n: usize) -> Vec<u8> {
 
 /// For a count of instructions, by `proved`, `model`, `plain` or none of them: a replay of n records; or, as
 /// `hall`, `backup`, `list` or `page`, hall ticks with quota 64, of any drives or of those that BackupValue
-/// leads, event calls or shift pages for n drives, 64 in a call.
+/// rules, event calls or shift pages for n drives, 64 in a call.
 pub fn spend(who: &str, what: &str, n: usize) {
     if matches!(what, "hall" | "backup" | "list" | "page") {
         return spend_on_halls(who, what, n);

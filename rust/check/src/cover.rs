@@ -10,7 +10,6 @@ use damper::{Answer, Drive, Rank, Refusal, Status};
 
 const RUN_ENDS: [&str; 5] = ["its ticks passed", "fault", "forcing", "restart", "new calibration"];
 const REASONS: [&str; 4] = ["no report yet", "change of value", "status", "RepPer"];
-const PERCENTS: [&str; 3] = ["normal write", "override", "tick by backup"];
 const WAYS: [&str; 3] = ["by normal write", "by override", "as BackupValue where a tick by backup ends"];
 const UNCHANGED: [&str; 2] = ["silent after the wait", "report for another reason"];
 
@@ -124,8 +123,8 @@ impl Cover {
         let ends = (0..5).map(|i| (format!("run ended: {}", RUN_ENDS[i]), self.run_ends[i]));
         let revived = [("setpoint revived".to_string(), self.revived)];
         let reasons = (0..4).map(|i| (format!("report: {}", REASONS[i]), self.reasons[i]));
-        let halves = (0..3).map(|i| (format!("percent half way: {}", PERCENTS[i]), self.halves[i]));
-        let raised = (0..3).map(|i| (format!("percent rounded up: {}", PERCENTS[i]), self.raised[i]));
+        let halves = (0..3).map(|i| (format!("percent half way, {}", WAYS[i]), self.halves[i]));
+        let raised = (0..3).map(|i| (format!("percent rounded up, {}", WAYS[i]), self.raised[i]));
         let each = self.percents.iter().zip(WAYS).flat_map(|(percents, way)| percents.counts(way));
         let reads = [("read rounded up".to_string(), self.raised_reads)];
         let unchanged =

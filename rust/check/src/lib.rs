@@ -1,8 +1,8 @@
 //! A second implementation of the damper drive of document 01, with document 02's hall (W-201), percents
 //! (W-202), shift page (W-203), quota (W-204) and refusal of repeats (W-205), written from the papers without
 //! sight of the proved code, and the runs that set another implementation (a `Subject`, a `Hall`) against it.
-//! W-206 changes no answer: the percents here are divided still, and what a multiplication can get wrong is
-//! drawn, counted and caught.
+//! W-206 changes no answer: the model still divides, and what a multiplication can get wrong is drawn,
+//! counted and caught.
 //! Of the shift page, what the C header and the crate `damper` say to a host had been read too.
 //!
 //! The second implementation is `table`, `event` and `model`, and `hall` over them; it shares with a host's

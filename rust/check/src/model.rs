@@ -78,7 +78,6 @@ impl Model {
 }
 
 /// Document 02, W-202: "a percent becomes the nearest position, halves down". With 50 for 49 they would go up.
-/// For W-206 the proved code takes a multiplication and a shift, and this one divides.
 pub fn percent_to_position(percent: u8) -> u8 {
     ((255 * u16::from(percent) + 49) / 100) as u8
 }

@@ -23,7 +23,7 @@ pub fn named(name: &str) -> &'static dyn Subject {
     all().find(|wrong| wrong.name == name).unwrap_or_else(|| panic!("no wrong drive {name}")).drive
 }
 
-/// By its name each of these is there for a wrong hall, whose tick alone goes by it.
+/// Open to the crate, since some wrong halls tick by one of these drives.
 pub(crate) mod edited {
     use super::Wrong;
 

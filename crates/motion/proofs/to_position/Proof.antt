@@ -6,7 +6,7 @@ use borrow.Author.Needs.{needs}
 use Rattle.motion.proofs.to_position.Statement.{statement}
 use Rattle.motion.proofs.to_position.Tie as tie
 
--- Four percents decide, by computation.
+-- With shift 10 four percents decide, by computation.
 returns : tie.Need-returns
 unfolding toPosition
 returns c = four-serve _ _ 10 (omega arith) (refl, refl, refl, refl) (c .args .percent) (c .pre)
