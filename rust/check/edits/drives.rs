@@ -108,21 +108,21 @@ pub const EDITS: &[Edit] = &[
     // The same in one of the three uses alone.
     edit(
         "NormalWriteAddendLess",
-        &[(NORMAL_WRITE, "position: ((2611 * u32::from(percent) + 476) >> 10) as u8")],
+        &[(NORMAL_WRITE, "position: super::AddendLess::percent_to_position(percent)")],
     ),
     edit(
         "NormalWriteAddendMore",
-        &[(NORMAL_WRITE, "position: ((2611 * u32::from(percent) + 514) >> 10) as u8")],
+        &[(NORMAL_WRITE, "position: super::AddendMore::percent_to_position(percent)")],
     ),
-    edit("OverrideAddendLess", &[(OVERRIDE, "Some(((2611 * u32::from(percent) + 476) >> 10) as u8)")]),
-    edit("OverrideAddendMore", &[(OVERRIDE, "Some(((2611 * u32::from(percent) + 514) >> 10) as u8)")]),
+    edit("OverrideAddendLess", &[(OVERRIDE, "Some(super::AddendLess::percent_to_position(percent))")]),
+    edit("OverrideAddendMore", &[(OVERRIDE, "Some(super::AddendMore::percent_to_position(percent))")]),
     edit(
         "BackupAddendLess",
-        &[(BACKUP, "((2611 * u32::from(self.params.get(Param::BackupValue)) + 476) >> 10) as u8")],
+        &[(BACKUP, "super::AddendLess::percent_to_position(self.params.byte(Param::BackupValue))")],
     ),
     edit(
         "BackupAddendMore",
-        &[(BACKUP, "((2611 * u32::from(self.params.get(Param::BackupValue)) + 514) >> 10) as u8")],
+        &[(BACKUP, "super::AddendMore::percent_to_position(self.params.byte(Param::BackupValue))")],
     ),
     // The factor one too low.
     edit("FactorLess", &[(TO_POSITION, "((2610 * u32::from(percent) + 495) >> 10) as u8")]),

@@ -24,12 +24,7 @@ pub struct Cover {
     revived: u64,
     /// Reports by the first reason that holds, in the order of step 4.
     reasons: [u64; 4],
-    /// Percents half way between two positions: at index 0 and 1 by that command, at 2 BackupValue where a
-    /// tick by backup ends.
-    halves: [u64; 3],
-    /// Percents nearer to the upper of two positions, likewise.
-    raised: [u64; 3],
-    /// All percents, likewise.
+    /// At index 0 and 1 the percents of that command, at 2 BackupValue where a tick by backup ends.
     percents: [Percents; 3],
     /// Reads of a position nearer to the upper of two percents.
     raised_reads: u64,
@@ -63,7 +58,7 @@ impl Cover {
     pub fn event(&mut self, before: &Drive, bytes: &[u8], answer: &Answer, after: &Drive) {
         match *answer {
             Answer::Refused(refusal) => self.refusal(refusal),
-            Answer::Tick { rank, report, .. } => self.tick(before, rank, report, after),
+            Answer::Tick { rank, report, .. } => self.tick(before, bytes, rank, report, after),
             Answer::Done => self.accepted(before, bytes, after),
             Answer::Position { position, .. } => {
                 self.raised_reads += u64::from(100 * u16::from(position) % 255 > 127)
@@ -72,7 +67,7 @@ impl Cover {
         }
     }
 
-    fn tick(&mut self, before: &Drive, rank: Rank, report: Option<Status>, after: &Drive) {
+    fn tick(&mut self, before: &Drive, bytes: &[u8], rank: Rank, report: Option<Status>, after: &Drive) {
         self.ranks[rank.number() as usize] += 1;
         if before.run.kind != 0 && after.run.kind == 0 {
             self.run_ends[0] += 1;
@@ -81,8 +76,7 @@ impl Cover {
             self.reasons[reason(before, after.position, status)] += 1;
         }
         if let Some(value) = backup_value_reached(before, rank, after.position) {
-            self.percent(2, value);
-            self.percents[2].reached(before, value);
+            self.percents[2].count(value, before, bytes, after);
         }
         if cov_as_position(before, after.position) {
             match report {
@@ -93,20 +87,11 @@ impl Cover {
         }
     }
 
-    fn percent(&mut self, by: usize, percent: u8) {
-        let hundredths = 255 * u16::from(percent) % 100;
-        self.halves[by] += u64::from(hundredths == 50);
-        self.raised[by] += u64::from(hundredths > 50);
-    }
-
     fn accepted(&mut self, before: &Drive, bytes: &[u8], after: &Drive) {
         let ran = before.run.kind != 0;
         let in_time = |r: &Drive| r.age <= param(r, Param::Timeout);
         match bytes[2] {
-            3 if bytes[5] < 2 => {
-                self.percent(bytes[5].into(), bytes[4]);
-                self.percents[usize::from(bytes[5])].stored(bytes[4]);
-            }
+            3 if bytes[5] < 2 => self.percents[usize::from(bytes[5])].count(bytes[4], before, bytes, after),
             7 if ran && after.run.kind == 0 => self.run_ends[1] += 1,
             4 if ran && after.run.kind == 0 => self.run_ends[2] += 1,
             9 if ran => self.run_ends[3] += 1,
@@ -123,13 +108,11 @@ impl Cover {
         let ends = (0..5).map(|i| (format!("run ended: {}", RUN_ENDS[i]), self.run_ends[i]));
         let revived = [("setpoint revived".to_string(), self.revived)];
         let reasons = (0..4).map(|i| (format!("report: {}", REASONS[i]), self.reasons[i]));
-        let halves = (0..3).map(|i| (format!("percent half way, {}", WAYS[i]), self.halves[i]));
-        let raised = (0..3).map(|i| (format!("percent rounded up, {}", WAYS[i]), self.raised[i]));
-        let each = self.percents.iter().zip(WAYS).flat_map(|(percents, way)| percents.counts(way));
+        let percents = self.percents.iter().zip(WAYS).flat_map(|(percents, way)| percents.counts(way));
         let reads = [("read rounded up".to_string(), self.raised_reads)];
         let unchanged =
             (0..2).map(|i| (format!("ActPosCOV as a position: {}", UNCHANGED[i]), self.unchanged[i]));
-        let percents = halves.chain(raised).chain(each).chain(reads).chain(unchanged);
+        let percents = percents.chain(reads).chain(unchanged);
         let origins = Origin::ALL.map(|o| (format!("record: {o:?}"), self.origins[o as usize]));
         let flags = Flag::ALL.map(|f| (format!("refused for the flag {f:?}"), self.flags[f as usize]));
         let events = refusals.chain(ranks).chain(ends).chain(revived).chain(reasons);

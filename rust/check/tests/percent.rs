@@ -154,15 +154,15 @@ fn multiplications_that_serve() {
 }
 
 /// The percents at which a conversion is not the nearest position.
-fn missed(position: impl Fn(u32) -> u32) -> Vec<u8> {
-    (0..=100).filter(|&percent| position(percent.into()) != nearest(percent).into()).collect()
+fn missed(position: impl Fn(u8) -> u8) -> Vec<u8> {
+    (0..=100).filter(|&percent| position(percent) != nearest(percent)).collect()
 }
 
 /// The addends that serve, and no others, one by one.
 #[test]
 fn addends_that_serve() {
     for addend in 0..1024 {
-        let missed = missed(|percent| (2611 * percent + addend) >> 10);
+        let missed = missed(|percent| ((2611 * u32::from(percent) + addend) >> 10) as u8);
         assert_eq!(missed.is_empty(), (477..=513).contains(&addend), "{addend}: {missed:?}");
     }
 }
@@ -176,10 +176,15 @@ fn bits_of_the_product() {
     assert_eq!(2611 * 100 + 513, 261_613);
 }
 
+/// The setpoint that a normal write of a percent leaves.
+fn written(drive: &dyn Subject, percent: u8) -> u8 {
+    drive.step(&Model.fresh(), Bytes::event(3, 51, percent, 0).as_slice()).1.commands.setpoint
+}
+
 /// Where each wrong conversion goes wrong; the generator draws all percents of the first four often.
 #[test]
 fn percents_that_are_missed() {
-    let all: Vec<_> = WRONG.iter().map(|wrong| missed(wrong.position)).collect();
+    let all: Vec<_> = WRONG.iter().map(|(_, drive)| missed(|percent| written(*drive, percent))).collect();
     let [addend_476, addend_514, factor, shift, bits] = &all[..] else { panic!("{all:?}") };
     assert_eq!(addend_476, &[81]);
     assert_eq!(addend_514, &[10]);

@@ -2,9 +2,11 @@
 
 use crate::check::Turn;
 use crate::event::Event;
+use crate::gen::Bytes;
 use crate::hall::{numbers_of, Drives, Ticked, LINE};
 use crate::model::Model;
 use crate::percents::{backup_value_reached, Percents};
+use crate::subject::Subject;
 use crate::table::Param;
 use damper::{Answer, Drive, HallTick};
 use std::cmp::Ordering;
@@ -440,14 +442,15 @@ impl HallCover {
         }
     }
 
-    /// Drives that a hall tick, by the first three steps of a tick, takes to their BackupValue.
+    /// Drives that a hall tick takes to their BackupValue, as a tick of their own would.
     fn backups(&mut self, row: &[Drive]) {
+        let tick = Bytes::event(1, 0, 0, 0);
         for drive in row {
-            let Answer::Tick { rank, position, .. } = Model::give(&mut { *drive }, Ok(Event::Tick)) else {
+            let (Answer::Tick { rank, position, .. }, after) = Model.step(drive, tick.as_slice()) else {
                 continue;
             };
             if let Some(value) = backup_value_reached(drive, rank, position) {
-                self.backup.reached(drive, value);
+                self.backup.count(value, drive, tick.as_slice(), &after);
             }
         }
     }
