@@ -2,3 +2,4 @@
 pub mod Motion
 pub mod Laws
 pub mod Product
+pub mod Approach

@@ -6,3 +6,4 @@ pub mod Places
 pub mod PlaceLaws
 pub mod Counts
 pub mod CountLaws
+pub mod Every

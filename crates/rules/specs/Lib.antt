@@ -3,6 +3,7 @@ pub mod Commands
 pub mod CommandsLaws
 pub mod Rank
 pub mod RankLaws
+pub mod TargetLaws
 pub mod Report
 pub mod Refusal
 pub mod RefusalLaws

@@ -14,4 +14,5 @@ pub mod Waited
 pub mod WaitingWitnesses
 pub mod HostLog
 pub mod PageRead
+pub mod Arrival
 pub mod Witnesses

@@ -1,0 +1,72 @@
+-- Document 02, W-207, 'It gets there': who rules at a tick and with which target, the ticks of a list, and what is claimed of them.
+use mathlib.Core.Path.{_≡_}
+use mathlib.Core.Bool.{Bool, _&&_}
+use mathlib.Core.List.{List, [], _∷_}
+use Prim.Native.Nat.{ℕ, _≤_}
+use lib.Dec.{eqb}
+use lib.ListN.{length}
+use Rattle.numbers.specs.Numbers.{pick}
+use Rattle.numbers.specs.Every.{Every}
+use Rattle.table.specs.Table.{rateNumber, rate}
+use Rattle.event.specs.declared.Event.{Event}
+use Rattle.event.specs.Kinds as Kind
+use Rattle.event.specs.Event.{eventIn}
+use Rattle.motion.specs.Motion.{runTicks}
+use Rattle.rules.specs.Rank.{Source, targetOf}
+use Rattle.damper.specs.declared.Drive.{Drive}
+use Rattle.damper.specs.declared.Outcome.{Outcome}
+use Rattle.damper.specs.Tick.{aged, rulingSource}
+use Rattle.damper.specs.Step.{refusalOf, stepOf}
+use Rattle.damper.specs.Carry.{StepOn, outcomes, driveAfter}
+
+-- the source that rules at a tick which finds the drive `d`, once its first step is done (document 02: commander)
+abbrev pub tickSource : Drive → Source
+tickSource d = rulingSource (aged d)
+
+-- the target of that source then
+unfoldable pub tickTarget : Drive → ℕ
+tickTarget d = let a = aged d in targetOf (a .commands) (a .run .kind) (a .position) (a .params) (tickSource d)
+
+-- "one commander rules with one target": at a tick that finds the drive `d`, the source `c` with the target `t`
+pub record Ruled (c : Source) (t : ℕ) (d : Drive) : Type 0 where
+  pub source : tickSource d ≡ c
+  pub target : tickTarget d ≡ t
+
+-- whether what a drive is given is accepted as something
+abbrev pub Test : Type 0 → Type 0
+Test A = Drive → A → Bool
+
+-- the drives that find what passes a test, of all that a list gives a drive, one after the other
+unfoldable pub found : {A : Type 0} → StepOn A → Test A → Drive → List A → List Drive
+found step test d [] = []
+found step test d (x ∷ l) = let rest = found step test (step d x .drive) l in pick (test d x) (d ∷ rest) rest
+
+-- "If one commander rules with one target for K ticks in a row, Rate unwritten, the drive stands at that target after the last of them and
+-- stays while that commander and target rule": of the drive `d`, the lists `l` and then `l′`, the source `c` and the target `t`, K being
+-- that of the Rate before `l`.
+abbrev pub GetsThere : {A : Type 0} → StepOn A → Test A → Test A → Drive → Type 0
+GetsThere {A} step tick rateWrite d =
+    (c : Source) (t : ℕ) (l : List A)
+    → Every (Ruled c t) (found step tick d l)
+    → found step rateWrite d l ≡ []
+    → runTicks (rate (d .params)) ≤ length (found step tick d l)
+    → (let e = driveAfter d (outcomes step d l) in
+    (e .position ≡ t)
+    × ((l′ : List A) → Every (Ruled c t) (found step tick e l′) → Every (λ (o : Outcome). o .drive .position ≡ t) (outcomes step e l′)))
+
+-- of event records: an accepted tick, and an accepted write of Rate
+abbrev pub accepted : (Event → Bool) → Test (List ℕ)
+accepted is d s = eqb (refusalOf d s) 0 && is (eventIn s)
+
+abbrev pub isTick : Event → Bool
+isTick e = eqb (e .kind) Kind.tick
+
+abbrev pub writesRate : Event → Bool
+writesRate e = eqb (e .kind) Kind.write && eqb (e .a) rateNumber
+
+-- the drives that the accepted ticks of a list of event records find, and those that its accepted writes of Rate find
+abbrev pub ticks : Drive → List (List ℕ) → List Drive
+ticks d l = found stepOf (accepted isTick) d l
+
+abbrev pub rateWrites : Drive → List (List ℕ) → List Drive
+rateWrites d l = found stepOf (accepted writesRate) d l

@@ -1,0 +1,125 @@
+-- Document 02, W-207, 'It gets there', of a drive's share of hall calls, whether its reports are held or sent.
+use mathlib.Core.Path.{_≡_, refl, sym, ap, _∙_}
+use mathlib.Core.Bool.{Bool, true, false}
+use mathlib.Core.List.{List, [], _∷_, _++_}
+use Prim.Native.Nat.{ℕ, _<_, _≤_}
+use lib.ListN.{length}
+use Rattle.numbers.specs.Numbers.{pick}
+use Rattle.numbers.specs.Every.{Every, none, more, every-front, every-rest, every-by}
+use Rattle.table.specs.Table.{rate}
+use Rattle.motion.specs.Motion.{runTicks, toward}
+use Rattle.rules.specs.Rank.{Source}
+use Rattle.damper.specs.declared.Drive.{Drive}
+use Rattle.damper.specs.WellFormed.{wellFormed}
+use Rattle.damper.specs.Tick.{advance}
+use Rattle.damper.specs.Step.{tickWith}
+use Rattle.damper.specs.Carry.{StepOn, outcomes, driveAfter}
+use Rattle.invariant.specs.Effects.{advance-params}
+use Rattle.arrival.specs.Arrival.{tickTarget, Ruled, Test, found, GetsThere, accepted, isTick, writesRate}
+use Rattle.arrival.specs.Laws.{advance-toward, found-append, Moves, formed, arrives, stands, gets-there}
+use Rattle.arrival.specs.Theorem.{step-moves}
+use Rattle.hall.specs.Hall.{Call, Given, bytes, hallTick, turnsOf, at, rowAfter, turnsIn, hallAfter, sharedOut, share}
+use Rattle.hall.specs.Quota.{hallTicked, hallStep}
+use Rattle.hall.specs.Laws.{row-length}
+use Rattle.shares.specs.Shares.{shared-append, turns-drive, share-drive, hall-length}
+use Rattle.shares.specs.WaitLaws.{formed-ticked}
+
+-- of what a drive of a hall is given: an accepted tick, which a hall tick of a well-formed drive is, and an accepted write of Rate
+abbrev pub tickGiven : Test Given
+tickGiven d (bytes s) = accepted isTick d s
+tickGiven d (hallTick sent) = wellFormed d
+
+abbrev pub rateGiven : Test Given
+rateGiven d (bytes s) = accepted writesRate d s
+rateGiven d (hallTick sent) = false
+
+-- the drives that the accepted ticks of the share of place `i` find, and those that its accepted writes of Rate find
+abbrev pub ticksOf : List Drive → ℕ → List Call → List Drive
+ticksOf row i cs = found hallStep tickGiven (at row i) (share (length row) i cs)
+
+abbrev pub rateWritesOf : List Drive → ℕ → List Call → List Drive
+rateWritesOf row i cs = found hallStep rateGiven (at row i) (share (length row) i cs)
+
+-- the row after each of a list of calls
+unfoldable pub rowsAfter : StepOn Given → List Drive → List Call → List (List Drive)
+rowsAfter step row [] = []
+rowsAfter step row (c ∷ cs) = let next = rowAfter step row (turnsOf (length row) c) in next ∷ rowsAfter step next cs
+
+-- a hall tick moves a drive as a tick does, sent or held
+ticked-position : (sent : Bool) (d : Drive) → wellFormed d ≡ true → hallTicked sent d .drive .position ≡ advance d .drive .position
+unfolding hallTicked tickWith
+ticked-position true d w = rw w
+ticked-position false d w = rw w
+
+ticked-params : (sent : Bool) (d : Drive) → wellFormed d ≡ true → hallTicked sent d .drive .params ≡ d .params
+unfolding hallTicked tickWith
+ticked-params true d w = rw w (advance-params d)
+ticked-params false d w = rw w (advance-params d)
+
+hall-moves : Moves hallStep tickGiven rateGiven
+hall-moves = record { formed = wf; position = pos; kept = same }
+  where
+    wf : (d : Drive) (g : Given) → wellFormed d ≡ true → wellFormed (hallStep d g .drive) ≡ true
+    wf d (bytes s) w = step-moves .formed d s w
+    wf d (hallTick sent) w = formed-ticked d sent ∙ w
+
+    pos : (d : Drive) (g : Given) → wellFormed d ≡ true
+        → hallStep d g .drive .position ≡ pick (tickGiven d g) (toward (d .position) (tickTarget d) (rate (d .params))) (d .position)
+    pos d (bytes s) w = step-moves .position d s w
+    pos d (hallTick sent) w = ticked-position sent d w ∙ advance-toward d ∙ rw w
+
+    same : (d : Drive) (g : Given) → wellFormed d ≡ true → rateGiven d g ≡ false → rate (hallStep d g .drive .params) ≡ rate (d .params)
+    same d (bytes s) w n = step-moves .kept d s w n
+    same d (hallTick sent) w n = ap rate (ticked-params sent d w)
+
+-- For every well-formed drive at a position of a byte, whatever it is given.
+pub given-gets-there : (d : Drive) → wellFormed d ≡ true → d .position < 256 → GetsThere hallStep tickGiven rateGiven d
+given-gets-there = gets-there hall-moves
+
+module _ (i : ℕ) (t : ℕ) where
+  abbrev Stands : List Drive → Type 0
+  Stands row = at row i .position ≡ t
+
+  abbrev Toward : Drive → Type 0
+  Toward x = tickTarget x ≡ t
+
+  -- the drive at place `i` stays while each tick of its share finds the target `t`
+  rows-stand : (row : List Drive) (cs : List Call) → i < length row → wellFormed (at row i) ≡ true → Stands row → Every Toward (ticksOf row i cs)
+      → Every Stands (rowsAfter hallStep row cs)
+  unfolding rowsAfter turnsIn
+  rows-stand row [] h w e ts = none
+  rows-stand row (c ∷ cs) h w e ts =
+      let n = length row in
+      let us = turnsOf n c in
+      let d = at row i in
+      let next = rowAfter hallStep row us in
+      let own = sharedOut i us in
+      let now = found hallStep tickGiven d own in
+      let later = found hallStep tickGiven (driveAfter d (outcomes hallStep d own)) (share n i cs) in
+      let all : Every Toward (now ++ later) =
+      rw (shared-append i us (turnsIn n cs), found-append hallStep tickGiven d own (share n i cs)) at ts in
+      let here : at next i ≡ driveAfter d (outcomes hallStep d own) = turns-drive hallStep row us i h in
+      let size : length next ≡ n = row-length hallStep row us in
+      let there : Stands next = rw here (stands hall-moves t d own w e (every-front now later all)) in
+      let rest : Every Toward (ticksOf next i cs) = rw (size, here) (every-rest now later all) in
+      more there (rows-stand next cs (rw size h) (rw here (formed hall-moves d own w)) there rest)
+
+-- For every row, every place of it that holds such a drive, every source and target, and all lists of calls: "the drive stands at that
+-- target after the last of them and stays while that commander and target rule".
+module _ (row : List Drive) (i : ℕ) (h : i < length row) (w : wellFormed (at row i) ≡ true) (b : at row i .position < 256) where
+  pub share-gets-there : (c : Source) (t : ℕ) (cs : List Call)
+      → Every (Ruled c t) (ticksOf row i cs)
+      → rateWritesOf row i cs ≡ []
+      → runTicks (rate (at row i .params)) ≤ length (ticksOf row i cs)
+      → (let after = hallAfter hallStep row cs in
+      (at after i .position ≡ t)
+      × ((cs′ : List Call) → Every (Ruled c t) (ticksOf after i cs′) → Every (λ (r : List Drive). at r i .position ≡ t) (rowsAfter hallStep after cs′)))
+  share-gets-there c t cs ts e k =
+      let n = length row in
+      let d = at row i in
+      let after = hallAfter hallStep row cs in
+      let here : at after i ≡ driveAfter d (outcomes hallStep d (share n i cs)) = share-drive hallStep row cs i h in
+      let there : at after i .position ≡ t = rw here (arrives hall-moves t d (share n i cs) w b (every-by (λ x r. r .target) ts) e k) in
+      (there,
+      λ cs′ us.
+      rows-stand i t after cs′ (rw (hall-length hallStep row cs) h) (rw here (formed hall-moves d (share n i cs) w)) there (every-by (λ x r. r .target) us))
