@@ -2,3 +2,5 @@
 pub mod Arrival
 pub mod Laws
 pub mod Theorem
+pub mod Witnesses
+pub mod Wordings

@@ -15,4 +15,5 @@ pub mod WaitingWitnesses
 pub mod HostLog
 pub mod PageRead
 pub mod Arrival
+pub mod ArrivalWitnesses
 pub mod Witnesses

@@ -1,0 +1,133 @@
+-- Wordings of 'It gets there' that look right and are false, each with a list of events that shows it: what each condition is there for.
+use mathlib.Core.Path.{_≡_, refl}
+use mathlib.Core.Bool.{true}
+use mathlib.Core.List.{List, [], _∷_, map}
+use Prim.Native.Nat.{ℕ, _-_, _<_, _≤_}
+use native.Mathlib.Omega.{arith}
+use lib.ListN.{length, replicate, take}
+use Rattle.numbers.specs.Every.{Every}
+use Rattle.table.specs.Table.{rate}
+use Rattle.event.specs.Event.{event, bytesOf}
+use Rattle.event.specs.Kinds as Kind
+use Rattle.motion.specs.Motion.{runTicks}
+use Rattle.rules.specs.Rank.{Source, backup, bus, tool, hand}
+use Rattle.damper.specs.declared.Drive.{Drive}
+use Rattle.damper.specs.WellFormed.{wellFormed}
+use Rattle.damper.specs.Step.{stepOf}
+use Rattle.damper.specs.Carry.{outcomes, driveAfter}
+use Rattle.arrival.specs.Arrival.{tickSource, tickTarget, Ruled, ticks, rateWrites}
+use Rattle.arrival.specs.Theorem.{it-gets-there}
+use Rattle.arrival.specs.Witnesses.{computation, standing, rated, tickBytes, write, setpoint, damaged, handOn, percent, each-ruled}
+
+abbrev after : Drive → List (List ℕ) → Drive
+after d l = driveAfter d (outcomes stepOf d l)
+
+-- the drive arrives after `l` on such conditions, of a drive `d`, a list `l`, a source and a target
+abbrev Conditions : Type 1
+Conditions = Drive → List (List ℕ) → Source → ℕ → Type 0
+
+abbrev Arrives : Conditions → Type 0
+Arrives On = (d : Drive) (l : List (List ℕ)) (c : Source) (t : ℕ) → wellFormed d ≡ true → On d l c t → after d l .position ≡ t
+
+-- The conditions as they are.
+abbrev Asked : Conditions
+Asked d l c t =
+    (d .position < 256) × Every (Ruled c t) (ticks d l) × (rateWrites d l ≡ []) × (runTicks (rate (d .params)) ≤ length (ticks d l))
+
+pub asked-is-right : Arrives Asked
+asked-is-right d l c t w a = it-gets-there d w (a .0) c t l (a .1) (a .2) (a .3) .0
+
+-- One tick fewer than K.
+abbrev OneFewer : Conditions
+OneFewer d l c t =
+    (d .position < 256) × Every (Ruled c t) (ticks d l) × (rateWrites d l ≡ []) × (runTicks (rate (d .params)) - 1 ≤ length (ticks d l))
+
+-- Rate 5, whose K is 51, from 0 to 255: 50 ticks reach 250.
+pub one-fewer-is-wrong : Arrives OneFewer → ⊥
+unfolding computation
+one-fewer-is-wrong f =
+    let reached : _≡_ {A = ℕ} 250 255 =
+    f (standing 0 (rated 5)) (setpoint 255 ∷ replicate 50 tickBytes) bus 255 refl
+    (omega arith, each-ruled bus 255 _ refl refl, refl, omega arith) in
+    absurd (omega arith)
+
+-- Rate may be written, and K is that of the Rate at first.
+abbrev WrittenFirst : Conditions
+WrittenFirst d l c t = (d .position < 256) × Every (Ruled c t) (ticks d l) × (runTicks (rate (d .params)) ≤ length (ticks d l))
+
+-- Rate 255, whose K is 1; then Rate 1, and a tick.
+pub written-first-is-wrong : Arrives WrittenFirst → ⊥
+unfolding computation
+written-first-is-wrong f =
+    let reached : _≡_ {A = ℕ} 1 255 =
+    f (standing 0 (rated 255)) (setpoint 255 ∷ write 203 1 ∷ tickBytes ∷ []) bus 255 refl
+    (omega arith, each-ruled bus 255 _ refl refl, omega arith) in
+    absurd (omega arith)
+
+-- Rate may be written, and K is that of the Rate at last.
+abbrev WrittenLast : Conditions
+WrittenLast d l c t = (d .position < 256) × Every (Ruled c t) (ticks d l) × (runTicks (rate (after d l .params)) ≤ length (ticks d l))
+
+-- Rate 1 and a tick; then Rate 255.
+pub written-last-is-wrong : Arrives WrittenLast → ⊥
+unfolding computation
+written-last-is-wrong f =
+    let reached : _≡_ {A = ℕ} 1 255 =
+    f (standing 0 (rated 1)) (setpoint 255 ∷ tickBytes ∷ write 203 255 ∷ []) bus 255 refl
+    (omega arith, each-ruled bus 255 _ refl refl, omega arith) in
+    absurd (omega arith)
+
+-- The source is asked for at each tick, the target at the first alone.
+abbrev FirstTarget : Conditions
+FirstTarget d l c t =
+    (d .position < 256)
+    × (map tickSource (ticks d l) ≡ replicate (length (ticks d l)) c)
+    × Every (Ruled c t) (take 1 (ticks d l))
+    × (rateWrites d l ≡ [])
+    × (runTicks (rate (d .params)) ≤ length (ticks d l))
+
+-- The hand at 255 at one tick, at 0 at two more.
+pub first-target-is-wrong : Arrives FirstTarget → ⊥
+unfolding computation
+first-target-is-wrong f =
+    let reached : _≡_ {A = ℕ} 0 255 =
+    f (standing 0 (rated 100)) (handOn 255 ∷ tickBytes ∷ handOn 0 ∷ tickBytes ∷ tickBytes ∷ []) hand 255 refl
+    (omega arith, refl, each-ruled hand 255 _ refl refl, refl, omega arith) in
+    absurd (omega arith)
+
+-- Refused ticks count as ticks.
+abbrev RefusedCount : Conditions
+RefusedCount d l c t =
+    (d .position < 256) × Every (Ruled c t) (ticks d l) × (rateWrites d l ≡ []) × (runTicks (rate (d .params)) ≤ length l)
+
+-- One tick and two damaged ones.
+pub refused-count-is-wrong : Arrives RefusedCount → ⊥
+unfolding computation
+refused-count-is-wrong f =
+    let reached : _≡_ {A = ℕ} 100 255 =
+    f (standing 0 (rated 100)) (setpoint 255 ∷ tickBytes ∷ damaged ∷ damaged ∷ []) bus 255 refl
+    (omega arith, each-ruled bus 255 _ refl refl, refl, omega arith) in
+    absurd (omega arith)
+
+-- From any number as a position, and not from one of a byte.
+abbrev AnyNumber : Conditions
+AnyNumber d l c t = Every (Ruled c t) (ticks d l) × (rateWrites d l ≡ []) × (runTicks (rate (d .params)) ≤ length (ticks d l))
+
+-- From 1000 toward 0 by a tick of Rate 255.
+pub any-number-is-wrong : Arrives AnyNumber → ⊥
+unfolding computation
+any-number-is-wrong f =
+    let reached : _≡_ {A = ℕ} 745 0 =
+    f (standing 1000 (rated 255)) (tickBytes ∷ []) backup 0 refl
+    (each-ruled backup 0 _ refl refl, refl, omega arith) in
+    absurd (omega arith)
+
+-- That one source rules is no condition of arriving: here bus, hand and tool have the same target at one tick each.
+abbrev three : List (List ℕ)
+three = setpoint 255 ∷ tickBytes ∷ handOn 255 ∷ tickBytes ∷ bytesOf (event Kind.hand 0 0 0) ∷ percent 100 Kind.override ∷ tickBytes ∷ []
+
+pub sources-may-change : (map tickSource (ticks (standing 0 (rated 100)) three) ≡ bus ∷ hand ∷ tool ∷ [])
+    × (map tickTarget (ticks (standing 0 (rated 100)) three) ≡ replicate 3 255)
+    × (after (standing 0 (rated 100)) three .position ≡ 255)
+unfolding computation
+sources-may-change = (refl, refl, refl)

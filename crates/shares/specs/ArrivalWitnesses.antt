@@ -1,0 +1,73 @@
+-- 'It gets there' in a hall, by computation: a drive that is forced open arrives in K hall ticks, at some of which its report is held, and
+-- stays.
+use mathlib.Core.Path.{_≡_, refl}
+use mathlib.Core.Bool.{Bool, true, false}
+use mathlib.Core.List.{List, [], _∷_, map}
+use Prim.Native.Nat.{ℕ, _<_, _≤_}
+use lib.Dec.{eqb}
+use lib.ListN.{length, replicate, set}
+use Rattle.numbers.specs.Every.{Every}
+use Rattle.table.specs.Table.{freshValues, rate}
+use Rattle.event.specs.Event.{event, bytesOf}
+use Rattle.event.specs.Kinds as Kind
+use Rattle.motion.specs.Motion.{runTicks}
+use Rattle.rules.specs.Commands.{noCommands}
+use Rattle.rules.specs.Rank.{forcing}
+use Rattle.damper.specs.declared.Drive.{Drive}
+use Rattle.damper.specs.Record.{drive, last, noRun}
+use Rattle.damper.specs.WellFormed.{wellFormed}
+use Rattle.arrival.specs.Arrival.{Ruled}
+use Rattle.arrival.specs.Witnesses as Arrival
+use Rattle.arrival.specs.Witnesses.{each-ruled}
+use Rattle.hall.specs.Closed as Hall
+use Rattle.hall.specs.Hall.{Call, give, tick, at, hallAfter}
+use Rattle.hall.specs.Quota.{hallStep, allowedCalls}
+use Rattle.shares.specs.Arrival.{ticksOf, rateWritesOf, rowsAfter}
+
+unfoldable computation : Unit {0}
+unfolding Hall.computation Arrival.computation rowsAfter
+computation = tt
+
+-- a closed drive with a Rate of 100, whose K is 3, that is due at every tick: MinRepTime and RepPer are 1
+abbrev eager : Drive
+eager = drive 0 (set (set (set freshValues 3 1) 8 1) 9 100) noCommands 0 noRun 0 (last 1 0 32) 0
+
+abbrev two : List Drive
+two = eager ∷ eager ∷ []
+
+-- an event given to the drive at place 1, and a hall tick of quota 1 that sends the drive at place `j`
+abbrev giving : ℕ → ℕ → ℕ → Call
+giving kind a c = give (1 ∷ []) (bytesOf (event kind a 0 c)) 1
+
+abbrev sending : ℕ → Call
+sending j = tick 1 (λ i. eqb i j) 2
+
+-- place 1 is held, sent and held; a call that names a drive 7 is refused
+abbrev calls : List Call
+calls = giving Kind.forcing 3 0 ∷ sending 0 ∷ give (7 ∷ []) (bytesOf (event Kind.forcing 0 0 0)) 1 ∷ sending 1 ∷ sending 0 ∷ []
+
+-- then Rate is written, and place 1 is sent and held
+abbrev later : List Call
+later = giving Kind.write 203 1 ∷ sending 1 ∷ sending 0 ∷ []
+
+abbrev arrived : List Drive
+arrived = hallAfter hallStep two calls
+
+abbrev positions : List (List Drive) → List ℕ
+positions rows = map (λ (row : List Drive). at row 1 .position) rows
+
+pub forced-open : (wellFormed (at two 1) ≡ true)
+    × (allowedCalls two calls ≡ true)
+    × Every (Ruled forcing 255) (ticksOf two 1 calls)
+    × (rateWritesOf two 1 calls ≡ [])
+    × (runTicks (rate (at two 1 .params)) ≡ length (ticksOf two 1 calls))
+    × (positions (rowsAfter hallStep two calls) ≡ 0 ∷ 100 ∷ 100 ∷ 200 ∷ 255 ∷ [])
+unfolding computation
+forced-open = (refl, refl, each-ruled forcing 255 _ refl refl, refl, refl, refl)
+
+pub stays-open : (allowedCalls arrived later ≡ true)
+    × Every (Ruled forcing 255) (ticksOf arrived 1 later)
+    × (length (rateWritesOf arrived 1 later) ≡ 1)
+    × (positions (rowsAfter hallStep arrived later) ≡ replicate 3 255)
+unfolding computation
+stays-open = (refl, each-ruled forcing 255 _ refl refl, refl, refl)
