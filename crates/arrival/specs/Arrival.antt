@@ -9,7 +9,6 @@ use Rattle.numbers.specs.Numbers.{pick}
 use Rattle.numbers.specs.Every.{Every}
 use Rattle.table.specs.Table.{rateNumber, rate}
 use Rattle.event.specs.declared.Event.{Event}
-use Rattle.event.specs.Kinds as Kind
 use Rattle.event.specs.Event.{eventIn}
 use Rattle.motion.specs.Motion.{runTicks}
 use Rattle.rules.specs.Rank.{Source, targetOf}
@@ -18,6 +17,7 @@ use Rattle.damper.specs.declared.Outcome.{Outcome}
 use Rattle.damper.specs.Tick.{aged, rulingSource}
 use Rattle.damper.specs.Step.{refusalOf, stepOf}
 use Rattle.damper.specs.Carry.{StepOn, outcomes, driveAfter}
+use Rattle.history.specs.Readings.{isTick, isWrite}
 
 -- the source that rules at a tick which finds the drive `d`, once its first step is done (document 02: commander)
 abbrev pub tickSource : Drive → Source
@@ -41,32 +41,35 @@ unfoldable pub found : {A : Type 0} → StepOn A → Test A → Drive → List A
 found step test d [] = []
 found step test d (x ∷ l) = let rest = found step test (step d x .drive) l in pick (test d x) (d ∷ rest) rest
 
--- "If one commander rules with one target for K ticks in a row, Rate unwritten, the drive stands at that target after the last of them and
--- stays while that commander and target rule": of the drive `d`, the lists `l` and then `l′`, the source `c` and the target `t`, K being
--- that of the Rate before `l`.
+-- "If one commander rules with one target for K ticks in a row, Rate unwritten": of the drive `d` over the list `l`, for the source `c` and
+-- the target `t`, K being that of the Rate before the list
+pub record RuledForK {A : Type 0} (step : StepOn A) (tick rateWrite : Test A) (d : Drive) (c : Source) (t : ℕ) (l : List A) : Type 0 where
+  pub ruled : Every (Ruled c t) (found step tick d l)
+  pub unwritten : found step rateWrite d l ≡ []
+  pub enough : runTicks (rate (d .params)) ≤ length (found step tick d l)
+
+-- "the drive stands at that target after the last of them and stays while that commander and target rule": then, over a list `l′` after that
 abbrev pub GetsThere : {A : Type 0} → StepOn A → Test A → Test A → Drive → Type 0
 GetsThere {A} step tick rateWrite d =
     (c : Source) (t : ℕ) (l : List A)
-    → Every (Ruled c t) (found step tick d l)
-    → found step rateWrite d l ≡ []
-    → runTicks (rate (d .params)) ≤ length (found step tick d l)
+    → RuledForK step tick rateWrite d c t l
     → (let e = driveAfter d (outcomes step d l) in
     (e .position ≡ t)
     × ((l′ : List A) → Every (Ruled c t) (found step tick e l′) → Every (λ (o : Outcome). o .drive .position ≡ t) (outcomes step e l′)))
 
--- of event records: an accepted tick, and an accepted write of Rate
+-- of event records: one that is accepted and of a kind; an accepted tick; an accepted write of Rate
 abbrev pub accepted : (Event → Bool) → Test (List ℕ)
 accepted is d s = eqb (refusalOf d s) 0 && is (eventIn s)
 
-abbrev pub isTick : Event → Bool
-isTick e = eqb (e .kind) Kind.tick
+abbrev pub tickTaken : Test (List ℕ)
+tickTaken = accepted isTick
 
-abbrev pub writesRate : Event → Bool
-writesRate e = eqb (e .kind) Kind.write && eqb (e .a) rateNumber
+abbrev pub rateTaken : Test (List ℕ)
+rateTaken = accepted (isWrite rateNumber)
 
 -- the drives that the accepted ticks of a list of event records find, and those that its accepted writes of Rate find
 abbrev pub ticks : Drive → List (List ℕ) → List Drive
-ticks d l = found stepOf (accepted isTick) d l
+ticks d l = found stepOf tickTaken d l
 
 abbrev pub rateWrites : Drive → List (List ℕ) → List Drive
-rateWrites d l = found stepOf (accepted writesRate) d l
+rateWrites d l = found stepOf rateTaken d l

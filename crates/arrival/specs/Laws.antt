@@ -1,9 +1,9 @@
 -- For every step whose accepted ticks move a drive toward the target that rules, by Rate or the distance, whose other events move nothing,
 -- and where a write of Rate alone changes Rate: the positions of a drive are a chain (motion/specs/Approach.antt), it arrives and it stays.
-use mathlib.Core.Path.{_≡_, refl, sym, ap, _∙_}
-use mathlib.Core.Bool.{Bool, true, false}
+use mathlib.Core.Path.{_≡_, refl, ap, _∙_}
+use mathlib.Core.Bool.{true, false}
 use mathlib.Core.List.{List, [], _∷_, _++_, map}
-use Prim.Native.Nat.{ℕ, suc, _+_, _<_, _≤_}
+use Prim.Native.Nat.{ℕ, _+_, _<_, _≤_}
 use native.Mathlib.Omega.{arith}
 use lib.ListN.{length, length-map}
 use Rattle.numbers.specs.Numbers.{pick}
@@ -18,13 +18,13 @@ use Rattle.damper.specs.declared.Drive.{Drive}
 use Rattle.damper.specs.declared.Outcome.{Outcome}
 use Rattle.damper.specs.WellFormed.{wellFormed}
 use Rattle.damper.specs.Laws.{wf-ranges}
-use Rattle.damper.specs.Tick.{aged, busOn, ruling, targetAt, advance}
+use Rattle.damper.specs.Tick.{aged, busOn, targetAt, advance}
 use Rattle.damper.specs.Carry.{StepOn, outcomes, driveAfter}
 use Rattle.invariant.specs.Effects.{advance-position}
-use Rattle.arrival.specs.Arrival.{tickSource, tickTarget, Ruled, Test, found, GetsThere}
+use Rattle.arrival.specs.Arrival.{tickSource, tickTarget, Test, found, GetsThere}
 
--- of a well-formed drive at a position of a byte, the target of a tick is one
-pub tick-target-byte : (d : Drive) → wellFormed d ≡ true → d .position < 256 → tickTarget d < 256
+-- of a well-formed drive at a position of a byte, the target of a tick is such a position too
+tick-target-byte : (d : Drive) → wellFormed d ≡ true → d .position < 256 → tickTarget d < 256
 unfolding tickTarget aged
 tick-target-byte d w h =
     let q = wf-ranges d w in
@@ -121,7 +121,7 @@ module _ {A : Type 0} {step : StepOn A} {tick rateWrite : Test A} (m : Moves ste
       let on = every-by (λ r h. h ∙ same) (rates n l (m .formed d x w) (f .1)) in
       cases (tick d x) (λ q. rw q (more refl on)) (λ q. rw q on)
 
-  -- "That one commander rules" is not needed for arriving: if each tick finds the target `t`, the drive arrives there.
+  -- If each tick finds the target `t`, whichever source rules, the drive arrives there,
   pub arrives : (t : ℕ) (d : Drive) (l : List A) → wellFormed d ≡ true → d .position < 256 → Every (Toward t) (found step tick d l)
       → found step rateWrite d l ≡ [] → runTicks (rate (d .params)) ≤ length (found step tick d l) → after d l .position ≡ t
   arrives t d l w h ts e k =
@@ -130,7 +130,7 @@ module _ {A : Type 0} {step : StepOn A} {tick rateWrite : Test A} (m : Moves ste
       chain t d l w ts
       ∙ approach-in-k t (d .position) (rate (d .params)) _ h (target-byte-of t d l w h ts some) r (rates d l w e) (rw (length-map (found step tick d l) rateOf) k)
 
-  -- and stays, as long as each tick finds that target, whatever Rate becomes: after them all, and after each
+  -- and stays as long as each tick finds that target, whatever Rate becomes: after them all, and after each.
   pub stands : (t : ℕ) (d : Drive) (l : List A) → wellFormed d ≡ true → d .position ≡ t → Every (Toward t) (found step tick d l)
       → after d l .position ≡ t
   stands t d l w h ts =
@@ -151,8 +151,8 @@ module _ {A : Type 0} {step : StepOn A} {tick rateWrite : Test A} (m : Moves ste
       more there (on there (every-behind us)))
       (λ q. let there : n .position ≡ t = m .position d x w ∙ rw q h in more there (on there (rw q at ts)))
 
-  -- The request's sentence.
+  -- The request's sentence, of one source.
   pub gets-there : (d : Drive) → wellFormed d ≡ true → d .position < 256 → GetsThere step tick rateWrite d
-  gets-there d w h c t l ts e k =
-      let there = arrives t d l w h (every-by (λ x r. r .target) ts) e k in
-      (there, λ l′ us. stays t (after d l) l′ (formed d l w) there (every-by (λ x r. r .target) us))
+  gets-there d w h c t l r =
+      let there = arrives t d l w h (every-by (λ x s. s .target) (r .ruled)) (r .unwritten) (r .enough) in
+      (there, λ l′ us. stays t (after d l) l′ (formed d l w) there (every-by (λ x s. s .target) us))

@@ -1,11 +1,10 @@
 -- Document 02, W-207: "If one commander rules with one target for K ticks in a row, Rate unwritten, the drive stands at that target after the
 -- last of them and stays while that commander and target rule", of every well-formed drive at a position of a byte.
-use mathlib.Core.Path.{_≡_, refl, sym, ap, _∙_}
-use mathlib.Core.Bool.{Bool, true, false, _&&_}
-use mathlib.Core.List.{List, [], _∷_}
-use Prim.Native.Nat.{ℕ, _<_, _≤_}
+use mathlib.Core.Path.{_≡_, refl, sym, _∙_}
+use mathlib.Core.Bool.{true, false}
+use mathlib.Core.List.{List}
+use Prim.Native.Nat.{ℕ, _<_}
 use lib.Dec.{eqb}
-use lib.ListN.{length, getD}
 use borrow.Author.Tests.{eqb-true, eqb-false}
 use Rattle.numbers.specs.Numbers.{pick}
 use Rattle.numbers.specs.Laws.{cases, and-left, not-false, pick-elim}
@@ -19,11 +18,12 @@ use Rattle.rules.specs.RefusalLaws.{state-passed, refusal-passed}
 use Rattle.damper.specs.declared.Drive.{Drive}
 use Rattle.damper.specs.WellFormed.{wellFormed}
 use Rattle.damper.specs.Tick.{advance}
-use Rattle.damper.specs.Step.{applied, refusalOf, stepOf}
+use Rattle.damper.specs.Step.{refusalOf, stepOf}
 use Rattle.damper.specs.Laws.{wf-in, refusal-none}
 use Rattle.invariant.specs.Effects.{params-after, position-after, step-refused, step-accepted, refusal-wf}
 use Rattle.invariant.specs.Kept.{param-after, wf-step}
-use Rattle.arrival.specs.Arrival.{tickTarget, GetsThere, accepted, isTick, writesRate}
+use Rattle.history.specs.Readings.{isWrite}
+use Rattle.arrival.specs.Arrival.{GetsThere, tickTaken, rateTaken}
 use Rattle.arrival.specs.Laws.{advance-toward, Moves, gets-there}
 
 module _ (d : Drive) (s : List ℕ) where
@@ -33,7 +33,7 @@ module _ (d : Drive) (s : List ℕ) where
   kind : refusalOf d s ≡ 0 → badKind (e .kind) ≡ false
   kind z = admitted e (refusal-none d s z .2) .kind
 
-  step-position : stepOf d s .drive .position ≡ pick (accepted isTick d s) (advance d .drive .position) (d .position)
+  step-position : stepOf d s .drive .position ≡ pick (tickTaken d s) (advance d .drive .position) (d .position)
   step-position =
       cases (eqb (refusalOf d s) 0)
       (λ q. let z = eqb-true _ 0 q in rw (step-accepted d s z, q) (position-after d e (kind z)))
@@ -45,15 +45,15 @@ module _ (d : Drive) (s : List ℕ) where
       let p = state-passed e _ _ _ _ _ (refusal-passed s _ _ _ _ _ (sym (refusal-wf d s w) ∙ z) .1) in
       and-left (known (e .a)) _ (not-false _ (rw k at (p .range)))
 
-  step-rate : wellFormed d ≡ true → accepted writesRate d s ≡ false → rate (stepOf d s .drive .params) ≡ rate (d .params)
+  step-rate : wellFormed d ≡ true → rateTaken d s ≡ false → rate (stepOf d s .drive .params) ≡ rate (d .params)
   unfolding placeFrom
   step-rate w n =
       cases (eqb (refusalOf d s) 0)
       (λ q.
       let z = eqb-true _ 0 q in
-      let n′ : writesRate e ≡ false = rw q at n in
+      let n′ : isWrite rateNumber e ≡ false = rw q at n in
       rw (step-accepted d s z, params-after d e (kind z))
-      (pick-elim (λ (p : List ℕ). rate p ≡ rate (d .params)) (eqb (e .kind) 8) 
+      (pick-elim (λ (p : List ℕ). rate p ≡ rate (d .params)) (eqb (e .kind) 8)
       (λ k.
       let other : eqb (e .a) rateNumber ≡ false = rw k at n′ in
       param-after (d .params) (e .a) (valueOf e) (all-length rows (d .params) (wf-in d w)) (written-known w z k) 9 rateNumber refl refl ∙ rw other)
@@ -61,7 +61,7 @@ module _ (d : Drive) (s : List ℕ) where
       (λ q. rw (step-refused d s (eqb-false _ 0 q)))
 
 -- a step is such
-pub step-moves : Moves stepOf (accepted isTick) (accepted writesRate)
+pub step-moves : Moves stepOf tickTaken rateTaken
 step-moves =
     record {
       formed = wf-step;
@@ -70,5 +70,5 @@ step-moves =
     }
 
 -- For every such drive, every source and target, and all lists of event records.
-pub it-gets-there : (d : Drive) → wellFormed d ≡ true → d .position < 256 → GetsThere stepOf (accepted isTick) (accepted writesRate) d
+pub it-gets-there : (d : Drive) → wellFormed d ≡ true → d .position < 256 → GetsThere stepOf tickTaken rateTaken d
 it-gets-there = gets-there step-moves

@@ -1,15 +1,14 @@
 -- 'It gets there' is not empty: closed lists that meet its conditions, one at least for each source, with the positions on the way.
 use mathlib.Core.Path.{_≡_, refl}
 use mathlib.Core.Bool.{true}
-use mathlib.Core.List.{List, [], _∷_, _++_, map, head-eq-of-cons-eq, tail-eq-of-cons-eq}
-use Prim.Native.Nat.{ℕ, _<_, _≤_}
+use mathlib.Core.List.{List, [], _∷_, map, head-eq-of-cons-eq, tail-eq-of-cons-eq}
+use Prim.Native.Nat.{ℕ, _<_}
 use native.Mathlib.Omega.{arith}
-use lib.ListN.{length, replicate, set}
+use lib.ListN.{length, drop, replicate, set}
 use Rattle.numbers.specs.Every.{Every, none, more}
-use Rattle.table.specs.Table.{freshValues, rate}
+use Rattle.table.specs.Table.{freshValues}
 use Rattle.event.specs.Event.{event, bytesOf}
 use Rattle.event.specs.Kinds as Kind
-use Rattle.motion.specs.Motion.{runTicks}
 use Rattle.rules.specs.Commands.{commands, noCommands}
 use Rattle.rules.specs.Rank.{Source, backup, bus, tool, hand, run, forcing, fault}
 use Rattle.damper.specs.declared.Drive.{Drive}
@@ -19,7 +18,7 @@ use Rattle.damper.specs.Record.{drive, last, noRun}
 use Rattle.damper.specs.WellFormed.{wellFormed}
 use Rattle.damper.specs.Step.{stepOf}
 use Rattle.damper.specs.Carry.{outcomes, driveAfter}
-use Rattle.arrival.specs.Arrival.{tickSource, tickTarget, Ruled, found, ticks, rateWrites}
+use Rattle.arrival.specs.Arrival.{tickSource, tickTarget, Ruled, found, RuledForK, tickTaken, rateTaken, ticks, rateWrites}
 use Rattle.arrival.specs.Theorem.{it-gets-there}
 
 -- `unfolding computation` opens the drive and what the sentence speaks of
@@ -69,22 +68,24 @@ each-ruled c t (d ∷ ds) p q =
     more record { source = head-eq-of-cons-eq p; target = head-eq-of-cons-eq q }
     (each-ruled c t ds (tail-eq-of-cons-eq p) (tail-eq-of-cons-eq q))
 
+pub ruled-targets : {c : Source} {t : ℕ} {ds : List Drive} → Every (Ruled c t) ds → map tickTarget ds ≡ replicate (length ds) t
+ruled-targets none = refl
+ruled-targets (more r rs) = λ i. r .target i ∷ ruled-targets rs i
+
 -- a drive and a list that meet the conditions with the source `c` and the target `t`
 pub record Stretch (c : Source) (t : ℕ) : Type 0 where
   pub start : Drive
   pub records : List (List ℕ)
   pub formed : wellFormed start ≡ true
   pub byte : start .position < 256
-  pub ruled : Every (Ruled c t) (ticks start records)
-  pub unwritten : rateWrites start records ≡ []
-  pub enough : runTicks (rate (start .params)) ≤ length (ticks start records)
+  pub rules : RuledForK stepOf tickTaken rateTaken start c t records
 
 -- the positions after each record, and after them all
 abbrev positions : {c : Source} {t : ℕ} → Stretch c t → List ℕ
 positions s = map (λ (o : Outcome). o .drive .position) (outcomes stepOf (s .start) (s .records))
 
 pub arrived : {c : Source} {t : ℕ} (s : Stretch c t) → driveAfter (s .start) (outcomes stepOf (s .start) (s .records)) .position ≡ t
-arrived {c} {t} s = it-gets-there (s .start) (s .formed) (s .byte) c t (s .records) (s .ruled) (s .unwritten) (s .enough) .0
+arrived {c} {t} s = it-gets-there (s .start) (s .formed) (s .byte) c t (s .records) (s .rules) .0
 
 -- Backup by BackupValue, 50 %: a restart and a damaged tick stand between the ticks.
 unfoldable pub by-backup : Stretch backup 127
@@ -95,9 +96,7 @@ by-backup =
       records = tickBytes ∷ restart ∷ tickBytes ∷ damaged ∷ tickBytes ∷ [];
       formed = refl;
       byte = omega arith;
-      ruled = each-ruled backup 127 _ refl refl;
-      unwritten = refl;
-      enough = omega arith;
+      rules = record { ruled = each-ruled backup 127 _ refl refl; unwritten = refl; enough = omega arith };
     }
 
 pub by-backup-way : positions by-backup ≡ 100 ∷ 100 ∷ 127 ∷ 127 ∷ 127 ∷ []
@@ -113,9 +112,7 @@ by-backup-kept =
       records = tickBytes ∷ tickBytes ∷ tickBytes ∷ [];
       formed = refl;
       byte = omega arith;
-      ruled = each-ruled backup 40 _ refl refl;
-      unwritten = refl;
-      enough = omega arith;
+      rules = record { ruled = each-ruled backup 40 _ refl refl; unwritten = refl; enough = omega arith };
     }
 
 pub by-backup-kept-way : positions by-backup-kept ≡ 40 ∷ 40 ∷ 40 ∷ []
@@ -131,9 +128,7 @@ by-backup-last =
       records = tickBytes ∷ tickBytes ∷ tickBytes ∷ [];
       formed = refl;
       byte = omega arith;
-      ruled = each-ruled backup 200 _ refl refl;
-      unwritten = refl;
-      enough = omega arith;
+      rules = record { ruled = each-ruled backup 200 _ refl refl; unwritten = refl; enough = omega arith };
     }
 
 pub by-backup-last-way : positions by-backup-last ≡ 100 ∷ 200 ∷ 200 ∷ []
@@ -149,14 +144,44 @@ by-bus =
       records = setpoint 255 ∷ tickBytes ∷ setpoint 255 ∷ tickBytes ∷ setpoint 255 ∷ tickBytes ∷ [];
       formed = refl;
       byte = omega arith;
-      ruled = each-ruled bus 255 _ refl refl;
-      unwritten = refl;
-      enough = omega arith;
+      rules = record { ruled = each-ruled bus 255 _ refl refl; unwritten = refl; enough = omega arith };
     }
 
 pub by-bus-way : positions by-bus ≡ 0 ∷ 100 ∷ 100 ∷ 200 ∷ 200 ∷ 255 ∷ []
 unfolding computation by-bus
 by-bus-way = refl
+
+-- A Rate of 5, whose K is 51, from one end to the other: 50 ticks reach 250.
+unfoldable pub by-bus-slowly : Stretch bus 255
+unfolding computation
+by-bus-slowly =
+    record {
+      start = standing 0 (rated 5);
+      records = setpoint 255 ∷ replicate 51 tickBytes;
+      formed = refl;
+      byte = omega arith;
+      rules = record { ruled = each-ruled bus 255 _ refl refl; unwritten = refl; enough = omega arith };
+    }
+
+pub by-bus-slowly-way : (drop 50 (positions by-bus-slowly) ≡ 250 ∷ 255 ∷ [])
+unfolding computation by-bus-slowly
+by-bus-slowly-way = refl
+
+-- A Rate of 255, whose K is 1, and RepPer written before the tick.
+unfoldable pub by-bus-at-once : Stretch bus 255
+unfolding computation
+by-bus-at-once =
+    record {
+      start = standing 0 (rated 255);
+      records = setpoint 255 ∷ write 202 1 ∷ tickBytes ∷ [];
+      formed = refl;
+      byte = omega arith;
+      rules = record { ruled = each-ruled bus 255 _ refl refl; unwritten = refl; enough = omega arith };
+    }
+
+pub by-bus-at-once-way : positions by-bus-at-once ≡ 0 ∷ 0 ∷ 255 ∷ []
+unfolding computation by-bus-at-once
+by-bus-at-once-way = refl
 
 -- An override of 1 %, which a normal write of 90 % does not end.
 unfoldable pub by-tool : Stretch tool 3
@@ -167,9 +192,7 @@ by-tool =
       records = percent 1 Kind.override ∷ tickBytes ∷ percent 90 Kind.normal ∷ tickBytes ∷ percent 1 Kind.override ∷ tickBytes ∷ [];
       formed = refl;
       byte = omega arith;
-      ruled = each-ruled tool 3 _ refl refl;
-      unwritten = refl;
-      enough = omega arith;
+      rules = record { ruled = each-ruled tool 3 _ refl refl; unwritten = refl; enough = omega arith };
     }
 
 pub by-tool-way : positions by-tool ≡ 255 ∷ 155 ∷ 155 ∷ 55 ∷ 55 ∷ 3 ∷ []
@@ -185,9 +208,7 @@ by-hand =
       records = handOn 250 ∷ tickBytes ∷ handOn 200 ∷ tickBytes ∷ tickBytes ∷ [];
       formed = refl;
       byte = omega arith;
-      ruled = each-ruled hand 180 _ refl refl;
-      unwritten = refl;
-      enough = omega arith;
+      rules = record { ruled = each-ruled hand 180 _ refl refl; unwritten = refl; enough = omega arith };
     }
 
 pub by-hand-way : positions by-hand ≡ 255 ∷ 180 ∷ 180 ∷ 180 ∷ 180 ∷ []
@@ -203,9 +224,7 @@ by-run =
       records = calibrate ∷ tickBytes ∷ setpoint 255 ∷ tickBytes ∷ calibrate ∷ tickBytes ∷ tickBytes ∷ tickBytes ∷ [];
       formed = refl;
       byte = omega arith;
-      ruled = each-ruled run 0 _ refl refl;
-      unwritten = refl;
-      enough = omega arith;
+      rules = record { ruled = each-ruled run 0 _ refl refl; unwritten = refl; enough = omega arith };
     }
 
 pub by-run-way : positions by-run ≡ 255 ∷ 155 ∷ 155 ∷ 55 ∷ 55 ∷ 0 ∷ 0 ∷ 0 ∷ []
@@ -221,9 +240,7 @@ by-sync =
       records = restart ∷ tickBytes ∷ tickBytes ∷ restart ∷ tickBytes ∷ [];
       formed = refl;
       byte = omega arith;
-      ruled = each-ruled run 255 _ refl refl;
-      unwritten = refl;
-      enough = omega arith;
+      rules = record { ruled = each-ruled run 255 _ refl refl; unwritten = refl; enough = omega arith };
     }
 
 pub by-sync-way : positions by-sync ≡ 0 ∷ 100 ∷ 200 ∷ 200 ∷ 255 ∷ []
@@ -239,9 +256,7 @@ by-forcing =
       records = bytesOf (event Kind.forcing 3 0 0) ∷ tickBytes ∷ handOn 0 ∷ tickBytes ∷ tickBytes ∷ [];
       formed = refl;
       byte = omega arith;
-      ruled = each-ruled forcing 255 _ refl refl;
-      unwritten = refl;
-      enough = omega arith;
+      rules = record { ruled = each-ruled forcing 255 _ refl refl; unwritten = refl; enough = omega arith };
     }
 
 pub by-forcing-way : positions by-forcing ≡ 0 ∷ 100 ∷ 100 ∷ 200 ∷ 255 ∷ []
@@ -257,9 +272,7 @@ by-fault =
       records = bytesOf (event Kind.fault 1 0 0) ∷ tickBytes ∷ setpoint 255 ∷ tickBytes ∷ tickBytes ∷ [];
       formed = refl;
       byte = omega arith;
-      ruled = each-ruled fault 77 _ refl refl;
-      unwritten = refl;
-      enough = omega arith;
+      rules = record { ruled = each-ruled fault 77 _ refl refl; unwritten = refl; enough = omega arith };
     }
 
 pub by-fault-way : positions by-fault ≡ 77 ∷ 77 ∷ 77 ∷ 77 ∷ 77 ∷ []

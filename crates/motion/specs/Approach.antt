@@ -1,8 +1,8 @@
 -- A damper that moves toward one target, tick after tick: a chain of positions in which the distance to the target falls by the Rate of each
 -- tick, or is 0.
-use mathlib.Core.Path.{_≡_, refl, ap, _∙_}
+use mathlib.Core.Path.{_≡_, ap, _∙_}
 use mathlib.Core.List.{List, [], _∷_}
-use Prim.Native.Nat.{ℕ, suc, _+_, _-_, _*_, _<_, _≤_, min}
+use Prim.Native.Nat.{ℕ, _+_, _-_, _*_, _<_, _≤_, min}
 use native.Mathlib.Omega.{arith}
 use native.Mathlib.Nat.{suc-mul, zero-mul, mul-le-mul-right}
 use lib.ListN.{length}
@@ -52,3 +52,10 @@ approach-in-k t p rate rs hp ht h es k =
     let whole : 255 ≤ runTicks rate * rate = run-ticks-ceiling rate h .0 in
     let enough : runTicks rate * rate ≤ length rs * rate = mul-le-mul-right rate k in
     approach-arrives t p rs (omega (arith, total-same rate rs es))
+
+-- fewer do not lead from one end to the other, whatever the Rate
+pub approach-short : (rate : ℕ) (rs : List ℕ) → 1 ≤ rate → Every (λ r. r ≡ rate) rs → length rs < runTicks rate → approached 255 0 rs ≡ 255 → ⊥
+approach-short rate rs h es k e =
+    let short : (runTicks rate - 1) * rate < 255 = run-ticks-ceiling rate h .1 in
+    let fewer : length rs * rate ≤ (runTicks rate - 1) * rate = mul-le-mul-right rate (omega arith) in
+    absurd (omega (arith, approach-left 255 0 rs, total-same rate rs es, ap (λ (x : ℕ). distance x 255) e))

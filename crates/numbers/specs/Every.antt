@@ -1,5 +1,5 @@
 -- What holds of every member of a list.
-use mathlib.Core.List.{List, [], _∷_, _++_, map}
+use mathlib.Core.List.{List, [], _∷_, _++_}
 
 pub data Every {A : Type 0} (P : A → Type 0) : List A → Type 0 where
   none : Every P []

@@ -1,4 +1,5 @@
--- Small functions on numbers and flags, tests of the places of a row, counts along a list, and their laws.
+-- Small functions on numbers and flags, tests of the places of a row, counts along a list, what holds of
+-- every member of one, and their laws.
 pub mod Numbers
 pub mod Laws
 pub mod FlagLaws

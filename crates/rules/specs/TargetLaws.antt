@@ -6,7 +6,7 @@ use Prim.Native.Nat.{ℕ, _<_, _≤_}
 use native.Mathlib.Omega.{arith}
 use lib.Dec.{eqb}
 use lib.ListN.{getD}
-use Rattle.numbers.specs.Numbers.{pick, on}
+use Rattle.numbers.specs.Numbers.{on}
 use Rattle.numbers.specs.Laws.{pick-elim}
 use Rattle.table.specs.Table.{backupMode, low, high}
 use Rattle.rules.specs.declared.Commands.{Commands}

@@ -1,13 +1,13 @@
 -- Document 02, W-207, 'It gets there', of a drive's share of hall calls, whether its reports are held or sent.
-use mathlib.Core.Path.{_≡_, refl, sym, ap, _∙_}
+use mathlib.Core.Path.{_≡_, ap, _∙_}
 use mathlib.Core.Bool.{Bool, true, false}
 use mathlib.Core.List.{List, [], _∷_, _++_}
-use Prim.Native.Nat.{ℕ, _<_, _≤_}
+use Prim.Native.Nat.{ℕ, _<_}
 use lib.ListN.{length}
 use Rattle.numbers.specs.Numbers.{pick}
 use Rattle.numbers.specs.Every.{Every, none, more, every-front, every-rest, every-by}
 use Rattle.table.specs.Table.{rate}
-use Rattle.motion.specs.Motion.{runTicks, toward}
+use Rattle.motion.specs.Motion.{toward}
 use Rattle.rules.specs.Rank.{Source}
 use Rattle.damper.specs.declared.Drive.{Drive}
 use Rattle.damper.specs.WellFormed.{wellFormed}
@@ -15,7 +15,7 @@ use Rattle.damper.specs.Tick.{advance}
 use Rattle.damper.specs.Step.{tickWith}
 use Rattle.damper.specs.Carry.{StepOn, outcomes, driveAfter}
 use Rattle.invariant.specs.Effects.{advance-params}
-use Rattle.arrival.specs.Arrival.{tickTarget, Ruled, Test, found, GetsThere, accepted, isTick, writesRate}
+use Rattle.arrival.specs.Arrival.{tickTarget, Ruled, Test, found, RuledForK, GetsThere, tickTaken, rateTaken}
 use Rattle.arrival.specs.Laws.{advance-toward, found-append, Moves, formed, arrives, stands, gets-there}
 use Rattle.arrival.specs.Theorem.{step-moves}
 use Rattle.hall.specs.Hall.{Call, Given, bytes, hallTick, turnsOf, at, rowAfter, turnsIn, hallAfter, sharedOut, share}
@@ -26,11 +26,11 @@ use Rattle.shares.specs.WaitLaws.{formed-ticked}
 
 -- of what a drive of a hall is given: an accepted tick, which a hall tick of a well-formed drive is, and an accepted write of Rate
 abbrev pub tickGiven : Test Given
-tickGiven d (bytes s) = accepted isTick d s
+tickGiven d (bytes s) = tickTaken d s
 tickGiven d (hallTick sent) = wellFormed d
 
 abbrev pub rateGiven : Test Given
-rateGiven d (bytes s) = accepted writesRate d s
+rateGiven d (bytes s) = rateTaken d s
 rateGiven d (hallTick sent) = false
 
 -- the drives that the accepted ticks of the share of place `i` find, and those that its accepted writes of Rate find
@@ -108,18 +108,17 @@ module _ (i : ℕ) (t : ℕ) where
 -- target after the last of them and stays while that commander and target rule".
 module _ (row : List Drive) (i : ℕ) (h : i < length row) (w : wellFormed (at row i) ≡ true) (b : at row i .position < 256) where
   pub share-gets-there : (c : Source) (t : ℕ) (cs : List Call)
-      → Every (Ruled c t) (ticksOf row i cs)
-      → rateWritesOf row i cs ≡ []
-      → runTicks (rate (at row i .params)) ≤ length (ticksOf row i cs)
+      → RuledForK hallStep tickGiven rateGiven (at row i) c t (share (length row) i cs)
       → (let after = hallAfter hallStep row cs in
       (at after i .position ≡ t)
       × ((cs′ : List Call) → Every (Ruled c t) (ticksOf after i cs′) → Every (λ (r : List Drive). at r i .position ≡ t) (rowsAfter hallStep after cs′)))
-  share-gets-there c t cs ts e k =
+  share-gets-there c t cs r =
       let n = length row in
       let d = at row i in
       let after = hallAfter hallStep row cs in
       let here : at after i ≡ driveAfter d (outcomes hallStep d (share n i cs)) = share-drive hallStep row cs i h in
-      let there : at after i .position ≡ t = rw here (arrives hall-moves t d (share n i cs) w b (every-by (λ x r. r .target) ts) e k) in
-      (there,
-      λ cs′ us.
-      rows-stand i t after cs′ (rw (hall-length hallStep row cs) h) (rw here (formed hall-moves d (share n i cs) w)) there (every-by (λ x r. r .target) us))
+      let there : at after i .position ≡ t = rw here (arrives hall-moves t d (share n i cs) w b (every-by (λ x s. s .target) (r .ruled)) (r .unwritten) (r .enough)) in (
+        there,
+        λ cs′ us.
+            rows-stand i t after cs′ (rw (hall-length hallStep row cs) h) (rw here (formed hall-moves d (share n i cs) w)) there (every-by (λ x s. s .target) us),
+      )

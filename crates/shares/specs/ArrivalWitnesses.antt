@@ -1,28 +1,28 @@
 -- 'It gets there' in a hall, by computation: a drive that is forced open arrives in K hall ticks, at some of which its report is held, and
 -- stays.
 use mathlib.Core.Path.{_≡_, refl}
-use mathlib.Core.Bool.{Bool, true, false}
+use mathlib.Core.Bool.{true}
 use mathlib.Core.List.{List, [], _∷_, map}
-use Prim.Native.Nat.{ℕ, _<_, _≤_}
+use Prim.Native.Nat.{ℕ}
+use native.Mathlib.Omega.{arith}
 use lib.Dec.{eqb}
 use lib.ListN.{length, replicate, set}
 use Rattle.numbers.specs.Every.{Every}
-use Rattle.table.specs.Table.{freshValues, rate}
+use Rattle.table.specs.Table.{freshValues}
 use Rattle.event.specs.Event.{event, bytesOf}
 use Rattle.event.specs.Kinds as Kind
-use Rattle.motion.specs.Motion.{runTicks}
 use Rattle.rules.specs.Commands.{noCommands}
 use Rattle.rules.specs.Rank.{forcing}
 use Rattle.damper.specs.declared.Drive.{Drive}
 use Rattle.damper.specs.Record.{drive, last, noRun}
 use Rattle.damper.specs.WellFormed.{wellFormed}
-use Rattle.arrival.specs.Arrival.{Ruled}
+use Rattle.arrival.specs.Arrival.{Ruled, RuledForK}
 use Rattle.arrival.specs.Witnesses as Arrival
 use Rattle.arrival.specs.Witnesses.{each-ruled}
 use Rattle.hall.specs.Closed as Hall
-use Rattle.hall.specs.Hall.{Call, give, tick, at, hallAfter}
+use Rattle.hall.specs.Hall.{Call, give, tick, at, hallAfter, share}
 use Rattle.hall.specs.Quota.{hallStep, allowedCalls}
-use Rattle.shares.specs.Arrival.{ticksOf, rateWritesOf, rowsAfter}
+use Rattle.shares.specs.Arrival.{tickGiven, rateGiven, ticksOf, rateWritesOf, rowsAfter}
 
 unfoldable computation : Unit {0}
 unfolding Hall.computation Arrival.computation rowsAfter
@@ -58,12 +58,11 @@ positions rows = map (λ (row : List Drive). at row 1 .position) rows
 
 pub forced-open : (wellFormed (at two 1) ≡ true)
     × (allowedCalls two calls ≡ true)
-    × Every (Ruled forcing 255) (ticksOf two 1 calls)
-    × (rateWritesOf two 1 calls ≡ [])
-    × (runTicks (rate (at two 1 .params)) ≡ length (ticksOf two 1 calls))
+    × RuledForK hallStep tickGiven rateGiven (at two 1) forcing 255 (share 2 1 calls)
+    × (length (ticksOf two 1 calls) ≡ 3)
     × (positions (rowsAfter hallStep two calls) ≡ 0 ∷ 100 ∷ 100 ∷ 200 ∷ 255 ∷ [])
 unfolding computation
-forced-open = (refl, refl, each-ruled forcing 255 _ refl refl, refl, refl, refl)
+forced-open = (refl, refl, record { ruled = each-ruled forcing 255 _ refl refl; unwritten = refl; enough = omega arith }, refl, refl)
 
 pub stays-open : (allowedCalls arrived later ≡ true)
     × Every (Ruled forcing 255) (ticksOf arrived 1 later)
