@@ -3,12 +3,14 @@ use mathlib.Core.Path.{_≡_, refl}
 use mathlib.Core.Bool.{true}
 use mathlib.Core.List.{List, [], _∷_, map, head-eq-of-cons-eq, tail-eq-of-cons-eq}
 use Prim.Native.Nat.{ℕ, _<_}
-use native.Mathlib.Omega.{arith}
+use lib.Dec.{ltb, leb}
 use lib.ListN.{length, drop, replicate, set}
+use borrow.Author.Tests.{ltb-true, leb-true}
 use Rattle.numbers.specs.Every.{Every, none, more}
-use Rattle.table.specs.Table.{freshValues}
+use Rattle.table.specs.Table.{freshValues, rate}
 use Rattle.event.specs.Event.{event, bytesOf}
 use Rattle.event.specs.Kinds as Kind
+use Rattle.motion.specs.Motion.{runTicks}
 use Rattle.rules.specs.Commands.{commands, noCommands}
 use Rattle.rules.specs.Rank.{Source, backup, bus, tool, hand, run, forcing, fault}
 use Rattle.damper.specs.declared.Drive.{Drive}
@@ -19,7 +21,6 @@ use Rattle.damper.specs.WellFormed.{wellFormed}
 use Rattle.damper.specs.Step.{stepOf}
 use Rattle.damper.specs.Carry.{outcomes, driveAfter}
 use Rattle.arrival.specs.Arrival.{tickSource, tickTarget, Ruled, found, RuledForK, tickTaken, rateTaken, ticks, rateWrites}
-use Rattle.arrival.specs.Theorem.{it-gets-there}
 
 -- `unfolding computation` opens the drive and what the sentence speaks of
 unfoldable pub computation : Unit {0}
@@ -80,24 +81,29 @@ pub record Stretch (c : Source) (t : ℕ) : Type 0 where
   pub byte : start .position < 256
   pub rules : RuledForK stepOf tickTaken rateTaken start c t records
 
--- the positions after each record, and after them all
+-- all of which computes on closed ones
+abbrev pub stretch : (c : Source) (t : ℕ) (d : Drive) (l : List (List ℕ)) → wellFormed d ≡ true → ltb (d .position) 256 ≡ true
+    → map tickSource (ticks d l) ≡ replicate (length (ticks d l)) c → map tickTarget (ticks d l) ≡ replicate (length (ticks d l)) t
+    → rateWrites d l ≡ [] → leb (runTicks (rate (d .params))) (length (ticks d l)) ≡ true → Stretch c t
+stretch c t d l w b p q e k =
+    record {
+      start = d;
+      records = l;
+      formed = w;
+      byte = ltb-true _ _ b;
+      rules = record { ruled = each-ruled c t (ticks d l) p q; unwritten = e; enough = leb-true _ _ k };
+    }
+
+-- the positions after each record
 abbrev positions : {c : Source} {t : ℕ} → Stretch c t → List ℕ
 positions s = map (λ (o : Outcome). o .drive .position) (outcomes stepOf (s .start) (s .records))
-
-pub arrived : {c : Source} {t : ℕ} (s : Stretch c t) → driveAfter (s .start) (outcomes stepOf (s .start) (s .records)) .position ≡ t
-arrived {c} {t} s = it-gets-there (s .start) (s .formed) (s .byte) c t (s .records) (s .rules) .0
 
 -- Backup by BackupValue, 50 %: a restart and a damaged tick stand between the ticks.
 unfoldable pub by-backup : Stretch backup 127
 unfolding computation
 by-backup =
-    record {
-      start = standing 0 (set (rated 100) 5 50);
-      records = tickBytes ∷ restart ∷ tickBytes ∷ damaged ∷ tickBytes ∷ [];
-      formed = refl;
-      byte = omega arith;
-      rules = record { ruled = each-ruled backup 127 _ refl refl; unwritten = refl; enough = omega arith };
-    }
+    stretch backup 127 (standing 0 (set (rated 100) 5 50))
+    (tickBytes ∷ restart ∷ tickBytes ∷ damaged ∷ tickBytes ∷ []) refl refl refl refl refl refl
 
 pub by-backup-way : positions by-backup ≡ 100 ∷ 100 ∷ 127 ∷ 127 ∷ 127 ∷ []
 unfolding computation by-backup
@@ -107,13 +113,8 @@ by-backup-way = refl
 unfoldable pub by-backup-kept : Stretch backup 40
 unfolding computation
 by-backup-kept =
-    record {
-      start = standing 40 (set (rated 100) 4 1);
-      records = tickBytes ∷ tickBytes ∷ tickBytes ∷ [];
-      formed = refl;
-      byte = omega arith;
-      rules = record { ruled = each-ruled backup 40 _ refl refl; unwritten = refl; enough = omega arith };
-    }
+    stretch backup 40 (standing 40 (set (rated 100) 4 1))
+    (tickBytes ∷ tickBytes ∷ tickBytes ∷ []) refl refl refl refl refl refl
 
 pub by-backup-kept-way : positions by-backup-kept ≡ 40 ∷ 40 ∷ 40 ∷ []
 unfolding computation by-backup-kept
@@ -123,13 +124,8 @@ by-backup-kept-way = refl
 unfoldable pub by-backup-last : Stretch backup 200
 unfolding computation
 by-backup-last =
-    record {
-      start = drive 0 (set (rated 100) 4 1) (commands 0 0 0 0 0 0 1 200) 1860 noRun 0 (last 0 0 0) 0;
-      records = tickBytes ∷ tickBytes ∷ tickBytes ∷ [];
-      formed = refl;
-      byte = omega arith;
-      rules = record { ruled = each-ruled backup 200 _ refl refl; unwritten = refl; enough = omega arith };
-    }
+    stretch backup 200 (drive 0 (set (rated 100) 4 1) (commands 0 0 0 0 0 0 1 200) 1860 noRun 0 (last 0 0 0) 0)
+    (tickBytes ∷ tickBytes ∷ tickBytes ∷ []) refl refl refl refl refl refl
 
 pub by-backup-last-way : positions by-backup-last ≡ 100 ∷ 200 ∷ 200 ∷ []
 unfolding computation by-backup-last
@@ -139,13 +135,8 @@ by-backup-last-way = refl
 unfoldable pub by-bus : Stretch bus 255
 unfolding computation
 by-bus =
-    record {
-      start = standing 0 (set (rated 100) 7 1);
-      records = setpoint 255 ∷ tickBytes ∷ setpoint 255 ∷ tickBytes ∷ setpoint 255 ∷ tickBytes ∷ [];
-      formed = refl;
-      byte = omega arith;
-      rules = record { ruled = each-ruled bus 255 _ refl refl; unwritten = refl; enough = omega arith };
-    }
+    stretch bus 255 (standing 0 (set (rated 100) 7 1))
+    (setpoint 255 ∷ tickBytes ∷ setpoint 255 ∷ tickBytes ∷ setpoint 255 ∷ tickBytes ∷ []) refl refl refl refl refl refl
 
 pub by-bus-way : positions by-bus ≡ 0 ∷ 100 ∷ 100 ∷ 200 ∷ 200 ∷ 255 ∷ []
 unfolding computation by-bus
@@ -155,13 +146,8 @@ by-bus-way = refl
 unfoldable pub by-bus-slowly : Stretch bus 255
 unfolding computation
 by-bus-slowly =
-    record {
-      start = standing 0 (rated 5);
-      records = setpoint 255 ∷ replicate 51 tickBytes;
-      formed = refl;
-      byte = omega arith;
-      rules = record { ruled = each-ruled bus 255 _ refl refl; unwritten = refl; enough = omega arith };
-    }
+    stretch bus 255 (standing 0 (rated 5))
+    (setpoint 255 ∷ replicate 51 tickBytes) refl refl refl refl refl refl
 
 pub by-bus-slowly-way : (drop 50 (positions by-bus-slowly) ≡ 250 ∷ 255 ∷ [])
 unfolding computation by-bus-slowly
@@ -171,13 +157,8 @@ by-bus-slowly-way = refl
 unfoldable pub by-bus-at-once : Stretch bus 255
 unfolding computation
 by-bus-at-once =
-    record {
-      start = standing 0 (rated 255);
-      records = setpoint 255 ∷ write 202 1 ∷ tickBytes ∷ [];
-      formed = refl;
-      byte = omega arith;
-      rules = record { ruled = each-ruled bus 255 _ refl refl; unwritten = refl; enough = omega arith };
-    }
+    stretch bus 255 (standing 0 (rated 255))
+    (setpoint 255 ∷ write 202 1 ∷ tickBytes ∷ []) refl refl refl refl refl refl
 
 pub by-bus-at-once-way : positions by-bus-at-once ≡ 0 ∷ 0 ∷ 255 ∷ []
 unfolding computation by-bus-at-once
@@ -187,13 +168,8 @@ by-bus-at-once-way = refl
 unfoldable pub by-tool : Stretch tool 3
 unfolding computation
 by-tool =
-    record {
-      start = standing 255 (rated 100);
-      records = percent 1 Kind.override ∷ tickBytes ∷ percent 90 Kind.normal ∷ tickBytes ∷ percent 1 Kind.override ∷ tickBytes ∷ [];
-      formed = refl;
-      byte = omega arith;
-      rules = record { ruled = each-ruled tool 3 _ refl refl; unwritten = refl; enough = omega arith };
-    }
+    stretch tool 3 (standing 255 (rated 100))
+    (percent 1 Kind.override ∷ tickBytes ∷ percent 90 Kind.normal ∷ tickBytes ∷ percent 1 Kind.override ∷ tickBytes ∷ []) refl refl refl refl refl refl
 
 pub by-tool-way : positions by-tool ≡ 255 ∷ 155 ∷ 155 ∷ 55 ∷ 55 ∷ 3 ∷ []
 unfolding computation by-tool
@@ -203,13 +179,8 @@ by-tool-way = refl
 unfoldable pub by-hand : Stretch hand 180
 unfolding computation
 by-hand =
-    record {
-      start = standing 255 (set (rated 100) 11 180);
-      records = handOn 250 ∷ tickBytes ∷ handOn 200 ∷ tickBytes ∷ tickBytes ∷ [];
-      formed = refl;
-      byte = omega arith;
-      rules = record { ruled = each-ruled hand 180 _ refl refl; unwritten = refl; enough = omega arith };
-    }
+    stretch hand 180 (standing 255 (set (rated 100) 11 180))
+    (handOn 250 ∷ tickBytes ∷ handOn 200 ∷ tickBytes ∷ tickBytes ∷ []) refl refl refl refl refl refl
 
 pub by-hand-way : positions by-hand ≡ 255 ∷ 180 ∷ 180 ∷ 180 ∷ 180 ∷ []
 unfolding computation by-hand
@@ -219,13 +190,8 @@ by-hand-way = refl
 unfoldable pub by-run : Stretch run 0
 unfolding computation
 by-run =
-    record {
-      start = standing 255 (rated 100);
-      records = calibrate ∷ tickBytes ∷ setpoint 255 ∷ tickBytes ∷ calibrate ∷ tickBytes ∷ tickBytes ∷ tickBytes ∷ [];
-      formed = refl;
-      byte = omega arith;
-      rules = record { ruled = each-ruled run 0 _ refl refl; unwritten = refl; enough = omega arith };
-    }
+    stretch run 0 (standing 255 (rated 100))
+    (calibrate ∷ tickBytes ∷ setpoint 255 ∷ tickBytes ∷ calibrate ∷ tickBytes ∷ tickBytes ∷ tickBytes ∷ []) refl refl refl refl refl refl
 
 pub by-run-way : positions by-run ≡ 255 ∷ 155 ∷ 155 ∷ 55 ∷ 55 ∷ 0 ∷ 0 ∷ 0 ∷ []
 unfolding computation by-run
@@ -235,13 +201,8 @@ by-run-way = refl
 unfoldable pub by-sync : Stretch run 255
 unfolding computation
 by-sync =
-    record {
-      start = standing 0 (set (rated 100) 6 2);
-      records = restart ∷ tickBytes ∷ tickBytes ∷ restart ∷ tickBytes ∷ [];
-      formed = refl;
-      byte = omega arith;
-      rules = record { ruled = each-ruled run 255 _ refl refl; unwritten = refl; enough = omega arith };
-    }
+    stretch run 255 (standing 0 (set (rated 100) 6 2))
+    (restart ∷ tickBytes ∷ tickBytes ∷ restart ∷ tickBytes ∷ []) refl refl refl refl refl refl
 
 pub by-sync-way : positions by-sync ≡ 0 ∷ 100 ∷ 200 ∷ 200 ∷ 255 ∷ []
 unfolding computation by-sync
@@ -251,13 +212,8 @@ by-sync-way = refl
 unfoldable pub by-forcing : Stretch forcing 255
 unfolding computation
 by-forcing =
-    record {
-      start = standing 0 (rated 100);
-      records = bytesOf (event Kind.forcing 3 0 0) ∷ tickBytes ∷ handOn 0 ∷ tickBytes ∷ tickBytes ∷ [];
-      formed = refl;
-      byte = omega arith;
-      rules = record { ruled = each-ruled forcing 255 _ refl refl; unwritten = refl; enough = omega arith };
-    }
+    stretch forcing 255 (standing 0 (rated 100))
+    (bytesOf (event Kind.forcing 3 0 0) ∷ tickBytes ∷ handOn 0 ∷ tickBytes ∷ tickBytes ∷ []) refl refl refl refl refl refl
 
 pub by-forcing-way : positions by-forcing ≡ 0 ∷ 100 ∷ 100 ∷ 200 ∷ 255 ∷ []
 unfolding computation by-forcing
@@ -267,13 +223,8 @@ by-forcing-way = refl
 unfoldable pub by-fault : Stretch fault 77
 unfolding computation
 by-fault =
-    record {
-      start = standing 77 (rated 100);
-      records = bytesOf (event Kind.fault 1 0 0) ∷ tickBytes ∷ setpoint 255 ∷ tickBytes ∷ tickBytes ∷ [];
-      formed = refl;
-      byte = omega arith;
-      rules = record { ruled = each-ruled fault 77 _ refl refl; unwritten = refl; enough = omega arith };
-    }
+    stretch fault 77 (standing 77 (rated 100))
+    (bytesOf (event Kind.fault 1 0 0) ∷ tickBytes ∷ setpoint 255 ∷ tickBytes ∷ tickBytes ∷ []) refl refl refl refl refl refl
 
 pub by-fault-way : positions by-fault ≡ 77 ∷ 77 ∷ 77 ∷ 77 ∷ 77 ∷ []
 unfolding computation by-fault
