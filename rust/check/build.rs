@@ -1,10 +1,12 @@
 //! Compiles the plain C drive, and writes the wrong drives, the wrong halls and the false wordings of
-//! demand 3 that are the right ones with a piece of their text changed.
+//! demand 3 and of W-207 that are the right ones with a piece of their text changed.
 
 #[path = "edits/drives.rs"]
 mod drives;
 #[path = "edits/halls.rs"]
 mod halls;
+#[path = "edits/settle.rs"]
+mod settle;
 #[path = "edits/wordings.rs"]
 mod wordings;
 
@@ -30,6 +32,7 @@ fn main() {
     edited(&source("model"), drives::EDITS, "Wrong", "drive: &NAME::Model", &target("drives"));
     edited(&source("hall"), halls::EDITS, "Wrong", "hall: &NAME::HallModel", &target("halls"));
     edited(&source("literal"), wordings::EDITS, "Wording", "broken: NAME::broken", &target("wordings"));
+    edited(&source("settle/claim"), settle::EDITS, "Wording", "judge: NAME::judge", &target("settle"));
 }
 
 fn plain_c(root: &str, out: &str) {

@@ -66,7 +66,7 @@ impl Bytes {
         Bytes { len: bytes.len() as u8, data }
     }
 
-    pub fn event(kind: u8, a: u8, b: u8, c: u8) -> Bytes {
+    pub const fn event(kind: u8, a: u8, b: u8, c: u8) -> Bytes {
         Bytes { len: 6, data: [MARK[0], MARK[1], kind, a, b, c, 0, 0] }
     }
 
