@@ -15,7 +15,7 @@ use Rattle.rules.specs.Rank.{Source, targetOf}
 use Rattle.damper.specs.declared.Drive.{Drive}
 use Rattle.damper.specs.declared.Outcome.{Outcome}
 use Rattle.damper.specs.Tick.{aged, rulingSource}
-use Rattle.damper.specs.Step.{refusalOf, stepOf}
+use Rattle.damper.specs.Step.{refusalOf}
 use Rattle.damper.specs.Carry.{StepOn, outcomes, driveAfter}
 use Rattle.history.specs.Readings.{isTick, isWrite}
 
@@ -32,44 +32,41 @@ pub record Ruled (c : Source) (t : ℕ) (d : Drive) : Type 0 where
   pub source : tickSource d ≡ c
   pub target : tickTarget d ≡ t
 
--- whether what a drive is given is accepted as something
+-- a test of what a drive is given, by the drive as it stands then
 abbrev pub Test : Type 0 → Type 0
 Test A = Drive → A → Bool
 
--- the drives that find what passes a test, of all that a list gives a drive, one after the other
-unfoldable pub found : {A : Type 0} → StepOn A → Test A → Drive → List A → List Drive
-found step test d [] = []
-found step test d (x ∷ l) = let rest = found step test (step d x .drive) l in pick (test d x) (d ∷ rest) rest
+-- Of what a list gives a drive, one after the other: the drives that those find which pass a test.
+unfoldable pub drivesFound : {A : Type 0} → StepOn A → Test A → Drive → List A → List Drive
+drivesFound step test d [] = []
+drivesFound step test d (x ∷ l) = let rest = drivesFound step test (step d x .drive) l in pick (test d x) (d ∷ rest) rest
+
+-- the drive after them all
+abbrev pub after : {A : Type 0} → StepOn A → Drive → List A → Drive
+after step d l = driveAfter d (outcomes step d l)
 
 -- "If one commander rules with one target for K ticks in a row, Rate unwritten": of the drive `d` over the list `l`, for the source `c` and
 -- the target `t`, K being that of the Rate before the list
 pub record RuledForK {A : Type 0} (step : StepOn A) (tick rateWrite : Test A) (d : Drive) (c : Source) (t : ℕ) (l : List A) : Type 0 where
-  pub ruled : Every (Ruled c t) (found step tick d l)
-  pub unwritten : found step rateWrite d l ≡ []
-  pub enough : runTicks (rate (d .params)) ≤ length (found step tick d l)
+  pub ruled : Every (Ruled c t) (drivesFound step tick d l)
+  pub unwritten : drivesFound step rateWrite d l ≡ []
+  pub enough : runTicks (rate (d .params)) ≤ length (drivesFound step tick d l)
 
 -- "the drive stands at that target after the last of them and stays while that commander and target rule": then, over a list `l′` after that
-abbrev pub GetsThere : {A : Type 0} → StepOn A → Test A → Test A → Drive → Type 0
-GetsThere {A} step tick rateWrite d =
+abbrev pub Settles : {A : Type 0} → StepOn A → Test A → Test A → Drive → Type 0
+Settles {A} step tick rateWrite d =
     (c : Source) (t : ℕ) (l : List A)
     → RuledForK step tick rateWrite d c t l
-    → (let e = driveAfter d (outcomes step d l) in
+    → (let e = after step d l in
     (e .position ≡ t)
-    × ((l′ : List A) → Every (Ruled c t) (found step tick e l′) → Every (λ (o : Outcome). o .drive .position ≡ t) (outcomes step e l′)))
+    × ((l′ : List A) → Every (Ruled c t) (drivesFound step tick e l′) → Every (λ (o : Outcome). o .drive .position ≡ t) (outcomes step e l′)))
 
--- of event records: one that is accepted and of a kind; an accepted tick; an accepted write of Rate
+-- of event records: one that is accepted and says something; an accepted tick; an accepted write of Rate
 abbrev pub accepted : (Event → Bool) → Test (List ℕ)
-accepted is d s = eqb (refusalOf d s) 0 && is (eventIn s)
+accepted says d s = eqb (refusalOf d s) 0 && says (eventIn s)
 
-abbrev pub tickTaken : Test (List ℕ)
-tickTaken = accepted isTick
+abbrev pub tickAccepted : Test (List ℕ)
+tickAccepted = accepted isTick
 
-abbrev pub rateTaken : Test (List ℕ)
-rateTaken = accepted (isWrite rateNumber)
-
--- the drives that the accepted ticks of a list of event records find, and those that its accepted writes of Rate find
-abbrev pub ticks : Drive → List (List ℕ) → List Drive
-ticks d l = found stepOf tickTaken d l
-
-abbrev pub rateWrites : Drive → List (List ℕ) → List Drive
-rateWrites d l = found stepOf rateTaken d l
+abbrev pub rateWritten : Test (List ℕ)
+rateWritten = accepted (isWrite rateNumber)

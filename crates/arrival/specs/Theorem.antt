@@ -23,8 +23,8 @@ use Rattle.damper.specs.Laws.{wf-in, refusal-none}
 use Rattle.invariant.specs.Effects.{params-after, position-after, step-refused, step-accepted, refusal-wf}
 use Rattle.invariant.specs.Kept.{param-after, wf-step}
 use Rattle.history.specs.Readings.{isWrite}
-use Rattle.arrival.specs.Arrival.{GetsThere, tickTaken, rateTaken}
-use Rattle.arrival.specs.Laws.{advance-toward, Moves, gets-there}
+use Rattle.arrival.specs.Arrival.{Settles, tickAccepted, rateWritten}
+use Rattle.arrival.specs.Laws.{advance-toward, Moves, settles}
 
 module _ (d : Drive) (s : List ℕ) where
   abbrev e : Event
@@ -33,7 +33,7 @@ module _ (d : Drive) (s : List ℕ) where
   kind : refusalOf d s ≡ 0 → badKind (e .kind) ≡ false
   kind z = admitted e (refusal-none d s z .2) .kind
 
-  step-position : stepOf d s .drive .position ≡ pick (tickTaken d s) (advance d .drive .position) (d .position)
+  step-position : stepOf d s .drive .position ≡ pick (tickAccepted d s) (advance d .drive .position) (d .position)
   step-position =
       cases (eqb (refusalOf d s) 0)
       (λ q. let z = eqb-true _ 0 q in rw (step-accepted d s z, q) (position-after d e (kind z)))
@@ -45,7 +45,7 @@ module _ (d : Drive) (s : List ℕ) where
       let p = state-passed e _ _ _ _ _ (refusal-passed s _ _ _ _ _ (sym (refusal-wf d s w) ∙ z) .1) in
       and-left (known (e .a)) _ (not-false _ (rw k at (p .range)))
 
-  step-rate : wellFormed d ≡ true → rateTaken d s ≡ false → rate (stepOf d s .drive .params) ≡ rate (d .params)
+  step-rate : wellFormed d ≡ true → rateWritten d s ≡ false → rate (stepOf d s .drive .params) ≡ rate (d .params)
   unfolding placeFrom
   step-rate w n =
       cases (eqb (refusalOf d s) 0)
@@ -61,7 +61,7 @@ module _ (d : Drive) (s : List ℕ) where
       (λ q. rw (step-refused d s (eqb-false _ 0 q)))
 
 -- a step is such
-pub step-moves : Moves stepOf tickTaken rateTaken
+pub step-moves : Moves stepOf tickAccepted rateWritten
 step-moves =
     record {
       formed = wf-step;
@@ -70,5 +70,5 @@ step-moves =
     }
 
 -- For every such drive, every source and target, and all lists of event records.
-pub it-gets-there : (d : Drive) → wellFormed d ≡ true → d .position < 256 → GetsThere stepOf tickTaken rateTaken d
-it-gets-there = gets-there step-moves
+pub drive-settles : (d : Drive) → wellFormed d ≡ true → d .position < 256 → Settles stepOf tickAccepted rateWritten d
+drive-settles = settles step-moves

@@ -19,13 +19,20 @@ use Rattle.damper.specs.Closed as Closed
 use Rattle.damper.specs.Record.{drive, last, noRun}
 use Rattle.damper.specs.WellFormed.{wellFormed}
 use Rattle.damper.specs.Step.{stepOf}
-use Rattle.damper.specs.Carry.{outcomes, driveAfter}
-use Rattle.arrival.specs.Arrival.{tickSource, tickTarget, Ruled, found, RuledForK, tickTaken, rateTaken, ticks, rateWrites}
+use Rattle.damper.specs.Carry.{outcomes}
+use Rattle.arrival.specs.Arrival.{tickSource, tickTarget, Ruled, drivesFound, after, RuledForK, tickAccepted, rateWritten}
 
 -- `unfolding computation` opens the drive and what the sentence speaks of
 unfoldable pub computation : Unit {0}
-unfolding Closed.computation tickTarget found
+unfolding Closed.computation tickTarget drivesFound
 computation = tt
+
+-- the drives that the accepted ticks of a list find, and those that its accepted writes of Rate find
+abbrev pub ticksFound : Drive → List (List ℕ) → List Drive
+ticksFound d l = drivesFound stepOf tickAccepted d l
+
+abbrev pub writesFound : Drive → List (List ℕ) → List Drive
+writesFound d l = drivesFound stepOf rateWritten d l
 
 -- a drive at a position, with these parameters, to which nothing has happened
 abbrev pub standing : ℕ → List ℕ → Drive
@@ -38,6 +45,7 @@ rated r = set freshValues 9 r
 abbrev pub tickBytes : List ℕ
 tickBytes = bytesOf (event Kind.tick 0 0 0)
 
+-- a parameter and a value below 256
 abbrev pub write : ℕ → ℕ → List ℕ
 write number value = bytesOf (event Kind.write number 0 value)
 
@@ -79,19 +87,19 @@ pub record Stretch (c : Source) (t : ℕ) : Type 0 where
   pub records : List (List ℕ)
   pub formed : wellFormed start ≡ true
   pub byte : start .position < 256
-  pub rules : RuledForK stepOf tickTaken rateTaken start c t records
+  pub rules : RuledForK stepOf tickAccepted rateWritten start c t records
 
 -- all of which computes on closed ones
 abbrev pub stretch : (c : Source) (t : ℕ) (d : Drive) (l : List (List ℕ)) → wellFormed d ≡ true → ltb (d .position) 256 ≡ true
-    → map tickSource (ticks d l) ≡ replicate (length (ticks d l)) c → map tickTarget (ticks d l) ≡ replicate (length (ticks d l)) t
-    → rateWrites d l ≡ [] → leb (runTicks (rate (d .params))) (length (ticks d l)) ≡ true → Stretch c t
+    → map tickSource (ticksFound d l) ≡ replicate (length (ticksFound d l)) c → map tickTarget (ticksFound d l) ≡ replicate (length (ticksFound d l)) t
+    → writesFound d l ≡ [] → leb (runTicks (rate (d .params))) (length (ticksFound d l)) ≡ true → Stretch c t
 stretch c t d l w b p q e k =
     record {
       start = d;
       records = l;
       formed = w;
       byte = ltb-true _ _ b;
-      rules = record { ruled = each-ruled c t (ticks d l) p q; unwritten = e; enough = leb-true _ _ k };
+      rules = record { ruled = each-ruled c t (ticksFound d l) p q; unwritten = e; enough = leb-true _ _ k };
     }
 
 -- the positions after each record
@@ -240,15 +248,15 @@ witness run = (0, by-run)
 witness forcing = (255, by-forcing)
 witness fault = (77, by-fault)
 
--- And from there it stays, here while Rate is written, the hand is given anew and a write is refused, with five ticks after that list.
+-- From the end of `by-hand` the drive stays: Rate is written twice, the hand given anew and a write refused, over five ticks.
 abbrev afterwards : List (List ℕ)
 afterwards = write 203 1 ∷ tickBytes ∷ handOn 181 ∷ tickBytes ∷ write 203 0 ∷ tickBytes ∷ write 203 255 ∷ tickBytes ∷ tickBytes ∷ []
 
 abbrev arrivedDrive : Drive
-arrivedDrive = driveAfter (by-hand .start) (outcomes stepOf (by-hand .start) (by-hand .records))
+arrivedDrive = after stepOf (by-hand .start) (by-hand .records)
 
-pub hand-stays : (length (rateWrites arrivedDrive afterwards) ≡ 2)
-    × Every (Ruled hand 180) (ticks arrivedDrive afterwards)
+pub hand-stays : (length (writesFound arrivedDrive afterwards) ≡ 2)
+    × Every (Ruled hand 180) (ticksFound arrivedDrive afterwards)
     × (map (λ (o : Outcome). o .drive .position) (outcomes stepOf arrivedDrive afterwards) ≡ replicate 9 180)
 unfolding computation by-hand
 hand-stays = (refl, each-ruled hand 180 _ refl refl, refl)

@@ -32,7 +32,7 @@ approach-left t p [] = omega arith
 approach-left t p (r ∷ rs) = approach-left t (toward p t r) rs ∙ way-left _ _ r (total rs) (move-left p t r)
 
 -- where the Rates lead as far as the target is, the damper stands there
-pub approach-arrives : (t p : ℕ) (rs : List ℕ) → distance p t ≤ total rs → approached t p rs ≡ t
+approach-arrives : (t p : ℕ) (rs : List ℕ) → distance p t ≤ total rs → approached t p rs ≡ t
 approach-arrives t p rs h = omega (arith, approach-left t p rs)
 
 -- and from the target on it stays, whatever the Rates
@@ -40,7 +40,7 @@ pub approach-stays : (t : ℕ) (rs : List ℕ) → approached t t rs ≡ t
 approach-stays t rs = approach-arrives t t rs (omega arith)
 
 -- one Rate throughout
-pub total-same : (rate : ℕ) (rs : List ℕ) → Every (λ r. r ≡ rate) rs → total rs ≡ length rs * rate
+total-same : (rate : ℕ) (rs : List ℕ) → Every (λ r. r ≡ rate) rs → total rs ≡ length rs * rate
 unfolding total
 total-same rate [] none = omega (arith, zero-mul rate)
 total-same rate (r ∷ rs) (more e es) = omega (arith, e, total-same rate rs es, suc-mul (length rs) rate)

@@ -105,14 +105,18 @@ module _ (c : Commands) (r : ℕ) (b : Bool) where
   byte-has R.bus e = rw e (omega arith)
   byte-has R.backup e = omega arith
 
-  byte-most : R.activeByte c r b < 256
+  byte-most : R.activeByte c r b < 128
   unfolding R.activeByte
   byte-most =
       omega (arith, bit-le b 2, bit-le (on (c .tool)) 4, bit-le (on (c .hand)) 8, bit-le (R.running r) 16, bit-le (R.forced (c .forcing)) 32, bit-le (on (c .fault)) 64)
 
+  -- the ruling rank is one of the seven
+  pub ruling-below : R.rulingRank (R.activeByte c r b) < 7
+  ruling-below = rank-below _ (byte-has R.backup refl) byte-most
+
   -- no active source has a higher rank
   pub ruling-highest : (s : R.Source) → R.activeOf c r b s ≡ true → rankOf s ≤ R.rulingRank (R.activeByte c r b)
   ruling-highest s e =
-      let t = rank-highest _ (byte-has R.backup refl) byte-most in
+      let t = rank-highest _ (byte-has R.backup refl) (omega (arith, byte-most)) in
       let h : rankOf s < R.rulingRank (R.activeByte c r b) + 1 = lt-of-not-le (λ q. absurd (not-le-of-lt (t .1) (le-trans (pow-mono q) (byte-has s e)))) in
       omega arith

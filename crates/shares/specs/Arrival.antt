@@ -5,7 +5,7 @@ use mathlib.Core.List.{List, [], _∷_, _++_}
 use Prim.Native.Nat.{ℕ, _<_}
 use lib.ListN.{length}
 use Rattle.numbers.specs.Numbers.{pick}
-use Rattle.numbers.specs.Every.{Every, none, more, every-front, every-rest, every-by}
+use Rattle.numbers.specs.Every.{Every, none, more, every-front, every-rest}
 use Rattle.table.specs.Table.{rate}
 use Rattle.motion.specs.Motion.{toward}
 use Rattle.rules.specs.Rank.{Source}
@@ -13,10 +13,10 @@ use Rattle.damper.specs.declared.Drive.{Drive}
 use Rattle.damper.specs.WellFormed.{wellFormed}
 use Rattle.damper.specs.Tick.{advance}
 use Rattle.damper.specs.Step.{tickWith}
-use Rattle.damper.specs.Carry.{StepOn, outcomes, driveAfter}
+use Rattle.damper.specs.Carry.{StepOn}
 use Rattle.invariant.specs.Effects.{advance-params}
-use Rattle.arrival.specs.Arrival.{tickTarget, Ruled, Test, found, RuledForK, GetsThere, tickTaken, rateTaken}
-use Rattle.arrival.specs.Laws.{advance-toward, found-append, Moves, formed, arrives, stands, gets-there}
+use Rattle.arrival.specs.Arrival.{tickTarget, Ruled, Test, drivesFound, after, RuledForK, Settles, tickAccepted, rateWritten}
+use Rattle.arrival.specs.Laws.{advance-toward, found-append, Moves, Toward, ruled-toward, formed, stands, settles}
 use Rattle.arrival.specs.Theorem.{step-moves}
 use Rattle.hall.specs.Hall.{Call, Given, bytes, hallTick, turnsOf, at, rowAfter, turnsIn, hallAfter, sharedOut, share}
 use Rattle.hall.specs.Quota.{hallTicked, hallStep}
@@ -26,19 +26,16 @@ use Rattle.shares.specs.WaitLaws.{formed-ticked}
 
 -- of what a drive of a hall is given: an accepted tick, which a hall tick of a well-formed drive is, and an accepted write of Rate
 abbrev pub tickGiven : Test Given
-tickGiven d (bytes s) = tickTaken d s
+tickGiven d (bytes s) = tickAccepted d s
 tickGiven d (hallTick sent) = wellFormed d
 
 abbrev pub rateGiven : Test Given
-rateGiven d (bytes s) = rateTaken d s
+rateGiven d (bytes s) = rateWritten d s
 rateGiven d (hallTick sent) = false
 
--- the drives that the accepted ticks of the share of place `i` find, and those that its accepted writes of Rate find
+-- the drives that the accepted ticks of the share of place `i` find
 abbrev pub ticksOf : List Drive → ℕ → List Call → List Drive
-ticksOf row i cs = found hallStep tickGiven (at row i) (share (length row) i cs)
-
-abbrev pub rateWritesOf : List Drive → ℕ → List Call → List Drive
-rateWritesOf row i cs = found hallStep rateGiven (at row i) (share (length row) i cs)
+ticksOf row i cs = drivesFound hallStep tickGiven (at row i) (share (length row) i cs)
 
 -- the row after each of a list of calls
 unfoldable pub rowsAfter : StepOn Given → List Drive → List Call → List (List Drive)
@@ -73,19 +70,17 @@ hall-moves = record { formed = wf; position = pos; kept = same }
     same d (hallTick sent) w n = ap rate (ticked-params sent d w)
 
 -- For every well-formed drive at a position of a byte, whatever it is given.
-pub given-gets-there : (d : Drive) → wellFormed d ≡ true → d .position < 256 → GetsThere hallStep tickGiven rateGiven d
-given-gets-there = gets-there hall-moves
+pub given-settles : (d : Drive) → wellFormed d ≡ true → d .position < 256 → Settles hallStep tickGiven rateGiven d
+given-settles = settles hall-moves
+
+-- the drive at place `i` stands at `t`
+abbrev pub StandsAt : ℕ → ℕ → List Drive → Type 0
+StandsAt i t row = at row i .position ≡ t
 
 module _ (i : ℕ) (t : ℕ) where
-  abbrev Stands : List Drive → Type 0
-  Stands row = at row i .position ≡ t
-
-  abbrev Toward : Drive → Type 0
-  Toward x = tickTarget x ≡ t
-
   -- the drive at place `i` stays while each tick of its share finds the target `t`
-  rows-stand : (row : List Drive) (cs : List Call) → i < length row → wellFormed (at row i) ≡ true → Stands row → Every Toward (ticksOf row i cs)
-      → Every Stands (rowsAfter hallStep row cs)
+  rows-stand : (row : List Drive) (cs : List Call) → i < length row → wellFormed (at row i) ≡ true → StandsAt i t row
+      → Every (Toward t) (ticksOf row i cs) → Every (StandsAt i t) (rowsAfter hallStep row cs)
   unfolding rowsAfter turnsIn
   rows-stand row [] h w e ts = none
   rows-stand row (c ∷ cs) h w e ts =
@@ -94,31 +89,29 @@ module _ (i : ℕ) (t : ℕ) where
       let d = at row i in
       let next = rowAfter hallStep row us in
       let own = sharedOut i us in
-      let now = found hallStep tickGiven d own in
-      let later = found hallStep tickGiven (driveAfter d (outcomes hallStep d own)) (share n i cs) in
-      let all : Every Toward (now ++ later) =
+      let now = drivesFound hallStep tickGiven d own in
+      let later = drivesFound hallStep tickGiven (after hallStep d own) (share n i cs) in
+      let all : Every (Toward t) (now ++ later) =
       rw (shared-append i us (turnsIn n cs), found-append hallStep tickGiven d own (share n i cs)) at ts in
-      let here : at next i ≡ driveAfter d (outcomes hallStep d own) = turns-drive hallStep row us i h in
+      let here : at next i ≡ after hallStep d own = turns-drive hallStep row us i h in
       let size : length next ≡ n = row-length hallStep row us in
-      let there : Stands next = rw here (stands hall-moves t d own w e (every-front now later all)) in
-      let rest : Every Toward (ticksOf next i cs) = rw (size, here) (every-rest now later all) in
+      let there : StandsAt i t next = rw here (stands hall-moves t d own w e (every-front now later all)) in
+      let rest : Every (Toward t) (ticksOf next i cs) = rw (size, here) (every-rest now later all) in
       more there (rows-stand next cs (rw size h) (rw here (formed hall-moves d own w)) there rest)
 
 -- For every row, every place of it that holds such a drive, every source and target, and all lists of calls: "the drive stands at that
 -- target after the last of them and stays while that commander and target rule".
 module _ (row : List Drive) (i : ℕ) (h : i < length row) (w : wellFormed (at row i) ≡ true) (b : at row i .position < 256) where
-  pub share-gets-there : (c : Source) (t : ℕ) (cs : List Call)
+  pub share-settles : (c : Source) (t : ℕ) (cs : List Call)
       → RuledForK hallStep tickGiven rateGiven (at row i) c t (share (length row) i cs)
-      → (let after = hallAfter hallStep row cs in
-      (at after i .position ≡ t)
-      × ((cs′ : List Call) → Every (Ruled c t) (ticksOf after i cs′) → Every (λ (r : List Drive). at r i .position ≡ t) (rowsAfter hallStep after cs′)))
-  share-gets-there c t cs r =
+      → (let row′ = hallAfter hallStep row cs in
+      StandsAt i t row′
+      × ((cs′ : List Call) → Every (Ruled c t) (ticksOf row′ i cs′) → Every (StandsAt i t) (rowsAfter hallStep row′ cs′)))
+  share-settles c t cs r =
       let n = length row in
       let d = at row i in
-      let after = hallAfter hallStep row cs in
-      let here : at after i ≡ driveAfter d (outcomes hallStep d (share n i cs)) = share-drive hallStep row cs i h in
-      let there : at after i .position ≡ t = rw here (arrives hall-moves t d (share n i cs) w b (every-by (λ x s. s .target) (r .ruled)) (r .unwritten) (r .enough)) in (
-        there,
-        λ cs′ us.
-            rows-stand i t after cs′ (rw (hall-length hallStep row cs) h) (rw here (formed hall-moves d (share n i cs) w)) there (every-by (λ x s. s .target) us),
-      )
+      let row′ = hallAfter hallStep row cs in
+      let here : at row′ i ≡ after hallStep d (share n i cs) = share-drive hallStep row cs i h in
+      let there : StandsAt i t row′ = rw here (given-settles d w b c t (share n i cs) r .0) in
+      let formed′ : wellFormed (at row′ i) ≡ true = rw here (formed hall-moves d (share n i cs) w) in
+      (there, λ cs′ us. rows-stand i t row′ cs′ (rw (hall-length hallStep row cs) h) formed′ there (ruled-toward us))

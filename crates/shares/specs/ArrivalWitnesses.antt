@@ -15,25 +15,24 @@ use Rattle.rules.specs.Commands.{noCommands}
 use Rattle.rules.specs.Rank.{forcing}
 use Rattle.damper.specs.declared.Drive.{Drive}
 use Rattle.damper.specs.Record.{drive, last, noRun}
-use Rattle.damper.specs.WellFormed.{wellFormed}
-use Rattle.arrival.specs.Arrival.{Ruled, RuledForK}
+use Rattle.arrival.specs.Arrival.{Ruled, drivesFound, RuledForK}
 use Rattle.arrival.specs.Witnesses as Arrival
 use Rattle.arrival.specs.Witnesses.{each-ruled}
 use Rattle.hall.specs.Closed as Hall
 use Rattle.hall.specs.Hall.{Call, give, tick, at, hallAfter, share}
 use Rattle.hall.specs.Quota.{hallStep, allowedCalls}
-use Rattle.shares.specs.Arrival.{tickGiven, rateGiven, ticksOf, rateWritesOf, rowsAfter}
+use Rattle.shares.specs.Arrival.{tickGiven, rateGiven, ticksOf, rowsAfter, share-settles}
 
 unfoldable computation : Unit {0}
 unfolding Hall.computation Arrival.computation rowsAfter
 computation = tt
 
 -- a closed drive with a Rate of 100, whose K is 3, that is due at every tick: MinRepTime and RepPer are 1
-abbrev eager : Drive
-eager = drive 0 (set (set (set freshValues 3 1) 8 1) 9 100) noCommands 0 noRun 0 (last 1 0 32) 0
+abbrev alwaysDue : Drive
+alwaysDue = drive 0 (set (set (set freshValues 3 1) 8 1) 9 100) noCommands 0 noRun 0 (last 1 0 32) 0
 
 abbrev two : List Drive
-two = eager ∷ eager ∷ []
+two = alwaysDue ∷ alwaysDue ∷ []
 
 -- an event given to the drive at place 1, and a hall tick of quota 1 that sends the drive at place `j`
 abbrev giving : ℕ → ℕ → ℕ → Call
@@ -56,17 +55,24 @@ arrived = hallAfter hallStep two calls
 abbrev positions : List (List Drive) → List ℕ
 positions rows = map (λ (row : List Drive). at row 1 .position) rows
 
-pub forced-open : (wellFormed (at two 1) ≡ true)
-    × (allowedCalls two calls ≡ true)
-    × RuledForK hallStep tickGiven rateGiven (at two 1) forcing 255 (share 2 1 calls)
+-- the conditions, of which the theorem makes that place 1 stands open
+pub forced : RuledForK hallStep tickGiven rateGiven (at two 1) forcing 255 (share 2 1 calls)
+unfolding computation
+forced = record { ruled = each-ruled forcing 255 _ refl refl; unwritten = refl; enough = omega arith }
+
+pub forced-settles : at arrived 1 .position ≡ 255
+unfolding computation
+forced-settles = share-settles two 1 (omega arith) refl (omega arith) forcing 255 calls forced .0
+
+pub forced-open : (allowedCalls two calls ≡ true)
     × (length (ticksOf two 1 calls) ≡ 3)
     × (positions (rowsAfter hallStep two calls) ≡ 0 ∷ 100 ∷ 100 ∷ 200 ∷ 255 ∷ [])
 unfolding computation
-forced-open = (refl, refl, record { ruled = each-ruled forcing 255 _ refl refl; unwritten = refl; enough = omega arith }, refl, refl)
+forced-open = (refl, refl, refl)
 
 pub stays-open : (allowedCalls arrived later ≡ true)
     × Every (Ruled forcing 255) (ticksOf arrived 1 later)
-    × (length (rateWritesOf arrived 1 later) ≡ 1)
+    × (length (drivesFound hallStep rateGiven (at arrived 1) (share 2 1 later)) ≡ 1)
     × (positions (rowsAfter hallStep arrived later) ≡ replicate 3 255)
 unfolding computation
 stays-open = (refl, each-ruled forcing 255 _ refl refl, refl, refl)
