@@ -342,21 +342,10 @@ impl SettleGen {
 
     /// A write of a parameter other than Rate, of Low and High such that the goal stays between.
     fn parameter(&mut self, r: &Drive, goal: u8) -> Bytes {
-        let param = self.pick(&[
-            Param::DamperMode,
-            Param::OpenCloseDirection,
-            Param::ActPosCov,
-            Param::MinRepTime,
-            Param::BackupMode,
-            Param::BackupValue,
-            Param::StartSynchronization,
-            Param::Timeout,
-            Param::RepPer,
-            Param::Low,
-            Param::Low,
-            Param::High,
-            Param::High,
-        ]);
+        let mut param = self.pick(&Param::ALL);
+        if param == Param::Rate {
+            param = self.pick(&[Param::Low, Param::High]);
+        }
         let (low, high) = (get(r, Param::Low), get(r, Param::High));
         let row = param.row();
         let value = match param {
