@@ -1,5 +1,5 @@
-//! Compiles the plain C drive, and writes the wrong drives, the wrong halls and the false wordings of
-//! demand 3 and of W-207 that are the right ones with a piece of their text changed.
+//! Compiles the plain C drive, and writes the wrong drives, the wrong halls, the false wordings of
+//! demand 3 and the other wordings of W-207 that are the right ones with a piece of their text changed.
 
 #[path = "edits/drives.rs"]
 mod drives;

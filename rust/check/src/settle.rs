@@ -56,7 +56,7 @@ pub enum Given {
         sent: bool,
         held: bool,
     },
-    /// Nothing: a hall call that was refused itself (true) or does not name the drive.
+    /// Nothing: a hall call that was refused itself (true), one that does not name the drive, or a page.
     Nothing(bool),
 }
 
@@ -336,6 +336,10 @@ pub struct Caught {
 impl Caught {
     pub fn by_any(&self) -> bool {
         self.by_steps.is_some() || self.by_halls.is_some()
+    }
+
+    pub fn by_both(&self) -> bool {
+        self.by_steps.is_some() && self.by_halls.is_some()
     }
 }
 

@@ -161,8 +161,9 @@ fn shares() {
 #[test]
 fn wordings_and_wrong_drives() {
     for wording in wordings::ALL {
-        let caught = catch(&Proved, wording.judge, 14, 20_000, 4_000);
-        assert_eq!(caught.by_any(), !wording.is_true(), "{}: {caught}", wording.name);
+        let caught = catch(&Proved, wording.judge, 14, 20_000, 20_000);
+        let found = if wording.is_true() { !caught.by_any() } else { caught.by_both() };
+        assert!(found, "{}: {caught}", wording.name);
     }
     for wrong in wrong::ALL {
         let caught = catch(wrong, claim::judge, 14, 20_000, 4_000);

@@ -1,6 +1,6 @@
 //! Document 02's W-207 of one stretch: "If one commander rules with one target for K ticks in a row, Rate
 //! unwritten, the drive stands at that target after the last of them and stays while that commander and
-//! target rule." What it asks of a record is read off document 01 here, apart from `model`. False wordings
+//! target rule." What it asks of a record is read off document 01 here, apart from `model`. Other wordings
 //! are this text with a change, in `edits/settle.rs`.
 
 use crate::settle::{Found, Met, Source, Turn, Verdict};

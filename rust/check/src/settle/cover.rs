@@ -83,7 +83,7 @@ kinds! {
     ListOfMore: "named between in a list of two or more",
     NotNamed: "not named by an event call between",
     CallRefused: "a refused hall call between",
-    PageBetween: "a page in l",
+    PageBetween: "a page between",
 }
 
 const KINDS: usize = Kind::ALL.len();
@@ -157,8 +157,7 @@ impl Counts {
         self.by_source[met.source as usize] += 1;
         let mut kinds = [false; KINDS];
         let mut is = |kind: Kind, holds: bool| kinds[kind as usize] |= holds;
-        let first = l.iter().position(Turn::ticked).unwrap_or(0);
-        let last = l.iter().rposition(Turn::ticked).unwrap_or(0);
+        let (first, last) = ends(l);
         let found = &l[first].before;
         let source = met.source;
         let value = |record: &Drive, param: Param| record.params[param as usize];
@@ -239,12 +238,12 @@ impl Counts {
             refusals[usize::from(turn.refusal.min(13))] |= turn.refusal > 0;
             is(Kind::Refused, turn.refusal > 0);
             is(Kind::RefusedTick, turn.refusal > 0 && turn.is_tick());
-            is(Kind::NotNamed, turn.given == Given::Nothing(false));
             is(Kind::CallRefused, turn.given == Given::Nothing(true));
             if !turn.accepted() {
                 continue;
             }
-            is(Kind::Away, claim::found(after) != (source, met.goal));
+            let rules = |record| claim::found(record) == (source, met.goal);
+            is(Kind::Away, rules(before) && !rules(after));
             is(Kind::Read, turn.did(10) || turn.did(11));
             is(Kind::Restart, turn.did(9));
             is(Kind::RestartBackup, turn.did(9) && source == Source::Backup);
@@ -258,9 +257,9 @@ impl Counts {
             if let Some(commanded) = commanded(turn) {
                 is(Kind::Lower, commanded as u8 > source as u8);
                 let asked = |record| claim::asked(source, record);
-                is(Kind::SameValue, commanded == source && asked(before) == asked(after));
-                let same_target = claim::found(before) == claim::found(after);
-                is(Kind::OtherValue, commanded == source && same_target && asked(before) != asked(after));
+                let again = commanded == source && rules(before) && rules(after) && asked(after).is_some();
+                is(Kind::SameValue, again && asked(before) == asked(after));
+                is(Kind::OtherValue, again && asked(before) != asked(after));
             }
             if turn.did(8) {
                 for param in Param::ALL {
@@ -299,6 +298,12 @@ impl Counts {
             *count += u64::from(*met);
         }
     }
+}
+
+/// The places of the first and the last accepted tick of l.
+fn ends(l: &[Turn]) -> (usize, usize) {
+    let first = l.iter().position(Turn::ticked).unwrap_or(0);
+    (first, l.iter().rposition(Turn::ticked).unwrap_or(0))
 }
 
 /// The source that an accepted event commands, or takes its command from.
@@ -349,10 +354,12 @@ impl SettleCover {
         is(Kind::RowOf1, row.len() == 1);
         is(Kind::RowOf64, row.len() == 64);
         is(Kind::BesideBroken, row.iter().any(|drive| !claim::well_formed(drive)));
-        for (turn, call) in l.iter().zip(calls) {
+        let (first, last) = ends(l);
+        for (turn, call) in l[first..=last].iter().zip(&calls[first..=last]) {
             match call {
                 Call::Event { list, .. } => {
                     is(Kind::ListOfMore, list.len() > 1 && matches!(turn.given, Given::Record(_)));
+                    is(Kind::NotNamed, turn.given == Given::Nothing(false));
                 }
                 Call::Page { .. } => is(Kind::PageBetween, true),
                 Call::Tick { .. } => {}

@@ -177,7 +177,7 @@ wrong! {
     },
     MovesOnlyAtReports: |t| t.still_if(|| !t.reports()),
     MovesOnlyWithoutReport: |t| t.still_if(|| t.reports()),
-    StillAfterReport: |t| t.still_if(|| t.before.since == 0),
+    StillAfterReport: |t| t.still_if(|| t.before.since == 0 && t.before.last.reported == 1),
     LastRunTickStill: |t| t.still_if(|| t.before.run.left == 1),
     LastBusTickStill: |t| t.still_if(|| {
         t.source() == Source::Bus && t.before.age + 1 == t.before.params[Param::Timeout as usize]
@@ -194,7 +194,7 @@ wrong! {
     HandNotLimited: |t| t.or(t.ticked() && t.source() == Source::Hand, || {
         t.moved(t.before.commands.handpos, t.rate())
     }),
-    ForcingLimited: |t| t.or(t.ticked() && t.source() == Source::Forcing, || {
+    ForcingLimitedByHigh: |t| t.or(t.ticked() && t.source() == Source::Forcing, || {
         let high = t.before.params[Param::High as usize] as u8;
         t.moved(t.goal().min(high), t.rate())
     }),
