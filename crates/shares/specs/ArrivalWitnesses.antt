@@ -55,7 +55,7 @@ arrived = hallAfter hallStep two calls
 abbrev positions : List (List Drive) → List ℕ
 positions rows = map (λ (row : List Drive). at row 1 .position) rows
 
--- the conditions, of which the theorem makes that place 1 stands open
+-- The conditions hold, so that by the theorem place 1 stands open.
 pub forced : RuledForK hallStep tickGiven rateGiven (at two 1) forcing 255 (share 2 1 calls)
 unfolding computation
 forced = record { ruled = each-ruled forcing 255 _ refl refl; unwritten = refl; enough = omega arith }
