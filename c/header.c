@@ -810,6 +810,105 @@ static void hall_page(damper_drive fresh)
     }
 }
 
+/* The tick that would follow is the one that does, and each of its reasons is there without the others. */
+static void outlooks(damper_drive fresh)
+{
+    damper_drive d = with_param(with_param(fresh, DAMPER_NUMBER_MIN_REP_TIME, 2), DAMPER_NUMBER_REP_PER, 4);
+    damper_outlook o = damper_look_ahead(with_setpoint(d, 200));
+    CHECK(o.refusal == 0 && o.rank == DAMPER_RANK_BUS && o.target == 200 && o.position == 5 && o.status == 0);
+    CHECK(!o.waited && o.first && !o.changed && !o.differs && !o.period);
+    d = ticked(d, 1);
+    o = damper_look_ahead(d);
+    CHECK(o.rank == DAMPER_RANK_BACKUP && o.target == 0 && o.position == 0 && o.status == DAMPER_STATUS_NO_BUS);
+    CHECK(o.waited && o.first && !o.changed && !o.differs && !o.period && reports(d));
+    d = ticked(d, 2);
+    o = damper_look_ahead(d);
+    CHECK(o.waited && !o.first && !o.changed && !o.differs && !o.period && !reports(d));
+    o = damper_look_ahead(after(d, DAMPER_KIND_HAND, 1, 0, 0));
+    CHECK(o.waited && !o.first && !o.changed && o.differs && !o.period);
+    o = damper_look_ahead(with_param(with_param(d, DAMPER_NUMBER_BACKUP_VALUE, 50), DAMPER_NUMBER_RATE, 7));
+    CHECK(o.target == 127 && o.position == 7 && o.waited && !o.first && o.changed && !o.differs && !o.period);
+    o = damper_look_ahead(ticked(d, 2));
+    CHECK(o.waited && !o.first && !o.changed && !o.differs && o.period);
+    damper_drive broken = fresh;
+    broken.commands.fault = 2;
+    o = damper_look_ahead(broken);
+    CHECK(o.refusal == DAMPER_REFUSAL_RECORD && o.rank == 0 && o.target == 0 && o.position == 0 && o.status == 0);
+    CHECK(!o.waited && !o.first && !o.changed && !o.differs && !o.period);
+}
+
+/* The findings, the last of which is the lowest bit. */
+static unsigned findings(damper_findings f)
+{
+    const bool all[] = {f.spacing,   f.waiting,     f.moving, f.position, f.content,
+                        f.othermove, f.otherreport, f.due,    f.refusal,  f.answer};
+    unsigned bits = 0;
+    for (size_t i = 0; i < sizeof all / sizeof all[0]; i++)
+        bits = 2 * bits + all[i];
+    return bits;
+}
+
+/* The audit after an answer to an event, and in `found` what it found. */
+static unsigned found;
+
+static damper_audit heard(damper_audit a, unsigned kind, unsigned v, unsigned b, unsigned c, uint8_t word, uint32_t code)
+{
+    uint8_t bytes[DAMPER_EVENT_LENGTH] = {DAMPER_MARK_0, DAMPER_MARK_1, (uint8_t)kind, (uint8_t)v, (uint8_t)b, (uint8_t)c};
+    damper_audited r = damper_audit_hear(a, bytes, sizeof bytes, word, code);
+    CHECK(r.refusal == 0);
+    found = findings(r.findings);
+    return r.audit;
+}
+
+/* Nothing in what the drive itself answers; each finding by a wrong answer, with those that follow from it. */
+static void audits(damper_drive fresh)
+{
+    const damper_audit start = damper_audit_fresh();
+    CHECK(same(start.drive, fresh) && start.seen == 0 && start.apart == 65535);
+    damper_audit a = start;
+    damper_drive d = fresh;
+    for (unsigned i = 0; i < 600; i++) { /* ticks, and in turn every kind, accepted and refused */
+        const unsigned kind = 1 + (i % 5 ? 0 : i / 5 % 11), v = i % 3 ? 0 : 1 + i % 2 * 116, c = i % 7;
+        damper_stepped s = give(d, kind, v, 0, c);
+        a = heard(a, kind, v, 0, c, s.word, s.code);
+        CHECK(found == 0 && same(a.drive, s.drive));
+        s = tick(s.drive);
+        a = heard(a, DAMPER_KIND_TICK, 0, 0, 0, s.word, s.code);
+        CHECK(found == 0 && same(a.drive, s.drive));
+        d = s.drive;
+    }
+    const uint8_t silent = DAMPER_WORD_TICK, report = DAMPER_WORD_REPORT;
+    const damper_audit each = heard(start, DAMPER_KIND_WRITE, DAMPER_NUMBER_MIN_REP_TIME, 0, 1, DAMPER_WORD_OK, 0);
+    CHECK(found == 0);
+    const damper_audit reported = heard(each, DAMPER_KIND_TICK, 0, 0, 0, report, DAMPER_STATUS_NO_BUS);
+    CHECK(found == 0 && reported.apart == 0 && reported.drive.last.reported == 1);
+    a = heard(reported, DAMPER_KIND_WRITE, DAMPER_NUMBER_MIN_REP_TIME, 0, 2, DAMPER_WORD_OK, 0);
+    heard(a, DAMPER_KIND_TICK, 0, 0, 0, report, DAMPER_STATUS_NO_BUS);
+    CHECK(found == (1u << 9 | 1u << 2 | 1)); /* spacing, due, answer */
+    heard(each, DAMPER_KIND_TICK, 0, 0, 0, silent, 0);
+    CHECK(found == (1u << 8 | 1u << 2 | 1)); /* waiting, due, answer */
+    heard(start, DAMPER_KIND_TICK, 0, 0, 0, silent, 1u << 16);
+    CHECK(found == (1u << 7 | 1u << 6 | 1)); /* moving, position, answer */
+    heard(each, DAMPER_KIND_TICK, 0, 0, 0, report, 0);
+    CHECK(found == (1u << 5 | 1)); /* content, answer */
+    a = heard(start, DAMPER_KIND_READ_POSITION, 0, 0, 0, DAMPER_WORD_AT, 1u << 16 | DAMPER_STATUS_NO_BUS);
+    CHECK(found == (1u << 6 | 1u << 4 | 1) && a.seen == 1); /* position, othermove, answer */
+    heard(a, DAMPER_KIND_TICK, 0, 0, 0, silent, 0);
+    CHECK(found == 0); /* and by a tick it is back where it belongs */
+    heard(start, DAMPER_KIND_RESTART, 0, 0, 0, report, DAMPER_STATUS_NO_BUS);
+    CHECK(found == (1u << 3 | 1)); /* otherreport, answer */
+    heard(start, DAMPER_KIND_CALIBRATION, 0, 0, 0, DAMPER_WORD_NO, DAMPER_REFUSAL_CALIBRATION);
+    CHECK(found == (1u << 1 | 1)); /* refusal, answer */
+    heard(start, DAMPER_KIND_READ_PARAMETER, DAMPER_NUMBER_RATE, 0, 0, DAMPER_WORD_PAR, 6);
+    CHECK(found == 1); /* answer */
+    heard(each, DAMPER_KIND_TICK, 0, 0, 0, 255, DAMPER_STATUS_NO_BUS);
+    CHECK(found == 0); /* a word above REPORT */
+    a = start;
+    a.drive.commands.fault = 2;
+    damper_audited r = damper_audit_hear(a, NULL, 0, DAMPER_WORD_OK, 0);
+    CHECK(r.refusal == DAMPER_REFUSAL_RECORD && findings(r.findings) == 0 && r.audit.drive.commands.fault == 2);
+}
+
 static void null_pointers(damper_drive fresh)
 {
     uint8_t word = 9;
@@ -833,6 +932,9 @@ static void null_pointers(damper_drive fresh)
     CHECK(damper_hall_tick(&fresh, 1, 1, NULL, 0) == DAMPER_HALL_REFUSAL_CALL && fresh.since == 0);
     CHECK(damper_hall_page(NULL, 0, NULL, 0) == DAMPER_HALL_REFUSAL_ROW);
     CHECK(damper_hall_page(&fresh, 1, NULL, 0) == DAMPER_HALL_REFUSAL_PAGE);
+
+    damper_audited r = damper_audit_hear(damper_audit_fresh(), NULL, 0, DAMPER_WORD_NO, DAMPER_REFUSAL_LENGTH);
+    CHECK(r.refusal == 0 && findings(r.findings) == 0);
 }
 
 int main(void)
@@ -855,6 +957,8 @@ int main(void)
     percent_positions(fresh);
     hall_quota(fresh);
     hall_page(fresh);
+    outlooks(fresh);
+    audits(fresh);
     null_pointers(fresh);
     printf("header in %s: %u checks agree with the archives\n",
 #ifdef __cplusplus

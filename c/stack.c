@@ -37,6 +37,9 @@ static damper_stepped (*volatile step)(damper_drive, const uint8_t *, size_t);
 static damper_event (*volatile read_event)(const uint8_t *, size_t);
 static uint8_t (*volatile write_event)(uint8_t *, size_t, uint8_t, uint8_t, uint8_t, uint8_t);
 static damper_replayed (*volatile replay)(damper_drive, const uint8_t *, size_t, uint8_t *, size_t, uint32_t *, size_t);
+static damper_outlook (*volatile look_ahead)(damper_drive);
+static damper_audit (*volatile audit_fresh)(void);
+static damper_audited (*volatile audit_hear)(damper_audit, const uint8_t *, size_t, uint8_t, uint32_t);
 static uint8_t (*volatile hall_event)(damper_drive *, size_t, const uint32_t *, size_t, const uint8_t *, size_t, uint8_t *,
                                       size_t);
 static uint8_t (*volatile hall_tick)(damper_drive *, size_t, uint32_t, uint32_t *, size_t);
@@ -46,6 +49,9 @@ static damper_drive drive;
 static damper_stepped stepped;
 static damper_event found;
 static damper_replayed replayed;
+static damper_outlook outlook;
+static damper_audit audit;
+static damper_audited audited;
 static bool formed;
 static uint8_t events[ROOM][DAMPER_EVENT_LENGTH], *event, buffer[DAMPER_EVENT_LENGTH], written, words[ROOM];
 static uint32_t codes[ROOM];
@@ -60,6 +66,9 @@ static void call_step(void) { stepped = step(drive, event, DAMPER_EVENT_LENGTH);
 static void call_read(void) { found = read_event(event, DAMPER_EVENT_LENGTH); }
 static void call_write(void) { written = write_event(buffer, sizeof buffer, event[2], event[3], event[4], event[5]); }
 static void call_replay(void) { replayed = replay(drive, events[0], records * DAMPER_EVENT_LENGTH, words, ROOM, codes, ROOM); }
+static void call_look_ahead(void) { outlook = look_ahead(drive); }
+static void call_audit_fresh(void) { audit = audit_fresh(); }
+static void call_audit_hear(void) { audited = audit_hear(audit, event, DAMPER_EVENT_LENGTH, stepped.word, stepped.code); }
 
 /* The whole row, and a list that names each drive. */
 static void call_hall_event(void)
@@ -79,6 +88,9 @@ static void point(bool archive)
     POINT(read_event, damper_read);
     POINT(write_event, damper_write);
     POINT(replay, damper_replay);
+    POINT(look_ahead, damper_look_ahead);
+    POINT(audit_fresh, damper_audit_fresh);
+    POINT(audit_hear, damper_audit_hear);
     POINT(hall_event, damper_hall_event);
     POINT(hall_tick, damper_hall_tick);
     POINT(hall_page, damper_hall_page);
@@ -96,7 +108,7 @@ static void fill_hall(void)
 
 /*
  * The bytes from the deepest one without paint on, after calls over the list of events from a fresh drive. Of the hall each
- * drive but the last becomes now and then what that drive is.
+ * drive but the last becomes now and then what that drive is; the audit hears of each event what the event before was answered.
  */
 static size_t depth(void (*call)(void), bool archive, size_t calls, uint8_t paint)
 {
@@ -107,8 +119,10 @@ static size_t depth(void (*call)(void), bool archive, size_t calls, uint8_t pain
     for (size_t i = 0; i < calls; i++) {
         event = events[i];
         row[i % (DAMPER_HALL_MOST - 1)] = drive;
+        audit.drive = drive;
         on_stack(call);
-        drive = damper_step(drive, event, DAMPER_EVENT_LENGTH).drive;
+        stepped = damper_step(drive, event, DAMPER_EVENT_LENGTH);
+        drive = stepped.drive;
     }
     size_t painted = 0;
     while (painted < sizeof stack && stack[painted] == paint)
@@ -123,31 +137,33 @@ static size_t deeper(void (*call)(void), bool archive, size_t calls)
     return x > y ? x : y;
 }
 
-static size_t deepest;
+static bool fits = true;
 
-static void measure(const char *name, void (*call)(void), size_t calls)
+static void measure(const char *name, void (*call)(void), size_t calls, size_t most)
 {
     size_t taken = deeper(call, true, calls) - deeper(call, false, 1) + sizeof(void *);
     printf(" %s %zu", name, taken);
-    if (taken > deepest)
-        deepest = taken;
+    fits = fits && taken <= most;
 }
 
 int main(void)
 {
     records = fread(events, DAMPER_EVENT_LENGTH, ROOM, stdin);
     printf("bytes of stack, over %zu records:", records);
-    measure("fresh", call_fresh, 1);
-    measure("well_formed", call_well_formed, records);
-    measure("step", call_step, records);
-    measure("read", call_read, records);
-    measure("write", call_write, records);
-    measure("replay", call_replay, 1);
-    measure("hall_event", call_hall_event, records);
-    measure("hall_tick", call_hall_tick, records);
-    measure("hall_page", call_hall_page, records);
-    printf("; DAMPER_STACK is %d\n", DAMPER_STACK);
-    if (deepest <= DAMPER_STACK)
+    measure("fresh", call_fresh, 1, DAMPER_STACK);
+    measure("well_formed", call_well_formed, records, DAMPER_STACK);
+    measure("step", call_step, records, DAMPER_STACK);
+    measure("read", call_read, records, DAMPER_STACK);
+    measure("write", call_write, records, DAMPER_STACK);
+    measure("replay", call_replay, 1, DAMPER_STACK);
+    measure("look_ahead", call_look_ahead, records, DAMPER_STACK);
+    measure("audit_fresh", call_audit_fresh, 1, DAMPER_STACK);
+    measure("audit_hear", call_audit_hear, records, DAMPER_AUDIT_STACK);
+    measure("hall_event", call_hall_event, records, DAMPER_STACK);
+    measure("hall_tick", call_hall_tick, records, DAMPER_STACK);
+    measure("hall_page", call_hall_page, records, DAMPER_STACK);
+    printf("; DAMPER_STACK is %d, DAMPER_AUDIT_STACK %d\n", DAMPER_STACK, DAMPER_AUDIT_STACK);
+    if (fits)
         return 0;
     printf("stack: one takes more than that\n");
     return 1;

@@ -1,7 +1,8 @@
 /*
  * The air-damper drive of document 01 (after KNX chapter 7/10/3, block ADA), written and proved in Rattle, for hosts in
  * C11 and C++ on x86-64 Linux. Link libhost.a for single events, libhost_replay.a for damper_replay, libhall_event.a,
- * libhall_tick.a and libhall_page.a for the three calls of a hall, or any of these together: none needs another.
+ * libhall_tick.a and libhall_page.a for the three calls of a hall, libhost_audit.a for what a tick goes by and for the audit
+ * of any drive's answers, or any of these together: none needs another.
  *
  * A drive is a record of 46 bytes, and the host holds it. The host gives it event records of six bytes, one after the
  * other: a tick each second, and setpoints, forcing, hand, calibration, faults, parameter writes, restarts and reads as
@@ -30,7 +31,8 @@
  *   - It returns, and what it gives depends on its arguments alone. It has no state, allocates nothing, calls nothing
  *     outside its archive and writes nothing but its result and the bytes lent for it, so any thread and any signal handler
  *     may call it at any time.
- *   - It takes at most DAMPER_STACK bytes of stack below the caller's frame, the red zone of the x86-64 ABI among them.
+ *   - It takes at most DAMPER_STACK bytes of stack below the caller's frame, the red zone of the x86-64 ABI among them;
+ *     damper_audit_hear, which is no work of every tick, at most DAMPER_AUDIT_STACK.
  *
  * Numbers are document 01's, those of a hall request W-201's, percents request W-202's, those of the shift page W-203's, those
  * of the quota W-204's. A position is 0 to 255, where 255 is 100 %; a time is in ticks of a second.
@@ -50,6 +52,7 @@ extern "C" {
 #define DAMPER_EVENT_LENGTH 6 /* bytes of an event record */
 #define DAMPER_PARAMETERS 12  /* how many there are */
 #define DAMPER_STACK 512      /* bytes of stack that a call takes at most */
+#define DAMPER_AUDIT_STACK 1024 /* and one of damper_audit_hear */
 #define DAMPER_HALL_MOST 64   /* drives of a hall, and entries of a list, at most */
 #define DAMPER_HALL_LINE 29   /* bytes of a drive's line on the shift page, the line feed among them */
 #define DAMPER_HALL_QUOTA 64  /* reports that a hall tick may be asked to send, at most */
@@ -297,6 +300,48 @@ typedef struct damper_replayed {
     size_t count;       /* how many were */
 } damper_replayed;
 
+/* What damper_look_ahead gives: of a tick that would find the drive as it is. */
+typedef struct damper_outlook {
+    uint8_t refusal;  /* 0, or 1 if the record is not well formed, and then all else is 0 */
+    uint8_t rank;     /* who would rule the move, enum damper_rank */
+    uint8_t target;   /* the position to which that leads */
+    uint8_t position; /* that the tick would leave */
+    uint8_t status;   /* that the tick would leave, bits of enum damper_status */
+    bool waited;      /* MinRepTime has passed since the last report or restart; only then a report goes out, if: */
+    bool first;       /* there was none yet, or none since the last restart, */
+    bool changed;     /* or the position differs from the last reported one by ActPosCOV or more, */
+    bool differs;     /* or the status from the last reported one, */
+    bool period;      /* or RepPer has passed since the last report or restart */
+} damper_outlook;
+
+/* An audit: what it keeps from one event record to the next. Only damper_audit_fresh and damper_audit_hear make it. */
+typedef struct damper_audit {
+    damper_drive drive; /* the drive that the event records make, with the reports that were heard in place of its own */
+    uint8_t seen;       /* the position that was last shown */
+    uint16_t apart;     /* ticks since the latest report, past restarts; 65,535 for as many, more, or no report yet */
+} damper_audit;
+
+/* What damper_audit_hear found at an event record: the sentences that do not hold there. */
+typedef struct damper_findings {
+    bool spacing;     /* two reports fewer ticks apart than MinRepTime */
+    bool waiting;     /* MinRepTime ticks without report and restart, and position or status differ from what was reported */
+    bool moving;      /* a tick does not move the damper by Rate or the distance toward the target of who rules */
+    bool position;    /* the position is not the one that the event records make */
+    bool content;     /* a report does not give the position and the status that its tick leaves */
+    bool othermove;   /* another event than a tick moves the damper */
+    bool otherreport; /* another event than a tick sends a report */
+    bool due;         /* a tick is silent though a report is due, or reports though none is, by the reports so far */
+    bool refusal;     /* not refused by the first fitting number, or refused though none fits */
+    bool answer;      /* not the answer that this drive would give, had it sent the reports so far */
+} damper_findings;
+
+/* What damper_audit_hear gives. */
+typedef struct damper_audited {
+    damper_audit audit;       /* after the event record */
+    uint8_t refusal;          /* 0, or 1 if the audit's drive is not well formed, and then it is unchanged and nothing is found */
+    damper_findings findings;
+} damper_audited;
+
 /*
  * libhost.a
  */
@@ -337,6 +382,25 @@ uint8_t damper_write(uint8_t *buffer, size_t length, uint8_t kind, uint8_t a, ui
  */
 damper_replayed damper_replay(damper_drive drive, const uint8_t *bytes, size_t length, uint8_t *words,
                               size_t words_length, uint32_t *codes, size_t codes_length);
+
+/*
+ * libhost_audit.a
+ */
+
+/* What a tick would go by, if it were given to the drive now: who rules and toward what, and whether and why it would report. */
+damper_outlook damper_look_ahead(damper_drive drive);
+
+/* The audit of a drive that is fresh. */
+damper_audit damper_audit_fresh(void);
+
+/*
+ * Holds the answer that a drive, this one or another maker's, gave to an event record against the list of event records that it
+ * was given, fresh at first; word and code are as said at enum damper_word, and a word above REPORT is taken as REPORT. Of that
+ * drive nothing is known but its answers: where one shows no position, the damper is taken to stand where it was last seen.
+ * Each finding is true exactly where its sentence does not hold at this record. Nothing is ever found in the answers of
+ * damper_step.
+ */
+damper_audited damper_audit_hear(damper_audit audit, const uint8_t *bytes, size_t length, uint8_t word, uint32_t code);
 
 /*
  * libhall_event.a
@@ -542,6 +606,36 @@ DAMPER_AT(damper_event, c, 4);
 DAMPER_SIZE(damper_replayed, 56);
 DAMPER_AT(damper_replayed, drive, 0);
 DAMPER_AT(damper_replayed, count, 48);
+DAMPER_SIZE(damper_outlook, 10);
+DAMPER_AT(damper_outlook, refusal, 0);
+DAMPER_AT(damper_outlook, rank, 1);
+DAMPER_AT(damper_outlook, target, 2);
+DAMPER_AT(damper_outlook, position, 3);
+DAMPER_AT(damper_outlook, status, 4);
+DAMPER_AT(damper_outlook, waited, 5);
+DAMPER_AT(damper_outlook, first, 6);
+DAMPER_AT(damper_outlook, changed, 7);
+DAMPER_AT(damper_outlook, differs, 8);
+DAMPER_AT(damper_outlook, period, 9);
+DAMPER_SIZE(damper_audit, 50);
+DAMPER_AT(damper_audit, drive, 0);
+DAMPER_AT(damper_audit, seen, 46);
+DAMPER_AT(damper_audit, apart, 48);
+DAMPER_SIZE(damper_findings, 10);
+DAMPER_AT(damper_findings, spacing, 0);
+DAMPER_AT(damper_findings, waiting, 1);
+DAMPER_AT(damper_findings, moving, 2);
+DAMPER_AT(damper_findings, position, 3);
+DAMPER_AT(damper_findings, content, 4);
+DAMPER_AT(damper_findings, othermove, 5);
+DAMPER_AT(damper_findings, otherreport, 6);
+DAMPER_AT(damper_findings, due, 7);
+DAMPER_AT(damper_findings, refusal, 8);
+DAMPER_AT(damper_findings, answer, 9);
+DAMPER_SIZE(damper_audited, 62);
+DAMPER_AT(damper_audited, audit, 0);
+DAMPER_AT(damper_audited, refusal, 50);
+DAMPER_AT(damper_audited, findings, 51);
 
 #undef DAMPER_AT
 #undef DAMPER_SIZE

@@ -1,7 +1,7 @@
 -- Document 01, 'What the drive program prints': an answer's number and values.
 use mathlib.Core.Bool.{Bool, true, false}
 use mathlib.Core.List.{List, [], _∷_}
-use Prim.Native.Nat.{ℕ, _+_, _*_}
+use Prim.Native.Nat.{ℕ, zero, suc, _+_, _*_, _/_, _%_}
 use Rattle.answer.specs.declared.Answer.{Answer}
 use Rattle.answer.specs.declared.Answer.the-variants.{No, Done, Par, At, Tick, Report}
 
@@ -43,6 +43,15 @@ packed (v ∷ vs) = packedAfter v vs
 
 abbrev pub codeOf : Answer → ℕ
 codeOf a = packed (valuesOf a)
+
+-- the answer with this word and these values; every word from 5 on is a `tick` with a status
+abbrev pub answerOf : ℕ → ℕ → Answer
+answerOf zero n = No (n % 256)
+answerOf (suc zero) n = Done
+answerOf (suc (suc zero)) n = Par (n % 65536)
+answerOf (suc (suc (suc zero))) n = At (n / 65536 % 256) (n / 256 % 256) (n % 256)
+answerOf (suc (suc (suc (suc zero)))) n = Tick (n / 65536 % 256) (n / 256 % 256) (n % 256)
+answerOf (suc (suc (suc (suc (suc w))))) n = Report (n / 16777216 % 256) (n / 65536 % 256) (n / 256 % 256) (n % 256)
 
 -- "a spontaneous report is any answer of the tick's form with a status"
 abbrev pub isReport : Answer → Bool

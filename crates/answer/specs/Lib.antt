@@ -1,2 +1,3 @@
 -- What an event is answered with.
 pub mod Answer
+pub mod Laws

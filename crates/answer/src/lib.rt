@@ -1,6 +1,7 @@
 // What an event is answered with.
 ghost use mathlib.Core.Path.{_≡_};
-ghost use Rattle.answer.specs.Answer.{wordOf, codeOf};
+ghost use Prim.Native.Nat.{_%_};
+ghost use Rattle.answer.specs.Answer.{wordOf, codeOf, answerOf};
 
 pub enum Answer {
     // Refused, by this number.
@@ -85,4 +86,38 @@ impl Answer {
             }
         }
     }
+
+    // The answer with this word and these values.
+    pub fn of(word: u8, code: u32) -> Answer
+        ensures { λ r. ⌜ r ≡ answerOf word code ⌝ }
+    {
+        match word {
+            0 => Answer::No(byte(code)),
+            1 => Answer::Done,
+            2 => Answer::Par((code % 65536) as u16),
+            3 => Answer::At {
+                position: byte(code / 65536),
+                percent: byte(code / 256),
+                status: byte(code),
+            },
+            4 => Answer::Tick {
+                position: byte(code / 65536),
+                rank: byte(code / 256),
+                motor: byte(code),
+            },
+            _ => Answer::Report {
+                position: byte(code / 16777216),
+                rank: byte(code / 65536),
+                motor: byte(code / 256),
+                status: byte(code),
+            },
+        }
+    }
+}
+
+// The last digit of base 256.
+fn byte(code: u32) -> u8
+    ensures { λ r. ⌜ r ≡ code % 256 ⌝ }
+{
+    (code % 256) as u8
 }

@@ -44,6 +44,10 @@ withPosition d p = drive p (d .params) (d .commands) (d .age) (d .run) (d .since
 abbrev pub withReport : Drive → ℕ → Drive
 withReport d s = drive (d .position) (d .params) (d .commands) (d .age) (d .run) 0 (last 1 (d .position) s) (d .wait)
 
+-- since and the last report, as they were heard
+abbrev pub withHeard : Drive → ℕ → Last → Drive
+withHeard d s l = drive (d .position) (d .params) (d .commands) (d .age) (d .run) s l (d .wait)
+
 -- the parameter at one place of the row
 abbrev pub withParam : Drive → ℕ → ℕ → Drive
 withParam d i v = drive (d .position) (set (d .params) i v) (d .commands) (d .age) (d .run) (d .since) (d .last) (d .wait)

@@ -5,7 +5,7 @@ ghost use lib.ListN.{length};
 ghost use Rattle.numbers.specs.Numbers.{pick};
 ghost use Rattle.table.specs.Table.{rows};
 ghost use Rattle.motion.specs.Motion.{runTicks};
-ghost use Rattle.damper.specs.Record.{freshDrive, withCounts, withPosition, withRun, withReport, withParam, withSetpoint, withTool, withHand, withWait, cleared};
+ghost use Rattle.damper.specs.Record.{freshDrive, withCounts, withPosition, withRun, withReport, withHeard, withParam, withSetpoint, withTool, withHand, withWait, cleared};
 ghost use Rattle.damper.specs.WellFormed.{runFits, lastFits, wellFormed};
 use answer::Answer;
 use rules::Commands;
@@ -185,6 +185,14 @@ impl Drive {
             status: status,
         };
         self.since = 0;
+        self.last = last;
+        self
+    }
+
+    pub fn with_heard(mut self, since: u16, last: Last) -> Drive
+        ensures { λ r. ⌜ r ≡ withHeard self since last ⌝ }
+    {
+        self.since = since;
         self.last = last;
         self
     }

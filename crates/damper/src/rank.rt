@@ -43,7 +43,7 @@ impl Drive {
     }
 
     // The target at a rank.
-    pub(crate) fn target(self, rank: u8) -> u8
+    pub fn target(self, rank: u8) -> u8
         requires { ⌜ Ranges (self .params) ⌝ }
         requires { ⌜ rank < 7 ⌝ }
         ensures { λ r. ⌜ r ≡ targetAt self rank ⌝ }

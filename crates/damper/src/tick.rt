@@ -34,7 +34,7 @@ impl Run {
 
 impl Drive {
     // Step 1.
-    fn aged(self) -> Drive
+    pub fn aged(self) -> Drive
         ensures { λ r. ⌜ r ≡ aged self ⌝ }
     {
         self.with_counts(

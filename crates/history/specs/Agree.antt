@@ -157,7 +157,7 @@ same-bus b b′ a a′ t t′ p q r = rw (p, q, r)
 -- the move of a tick is the one read off the list
 module _ (d : Drive) (h : List Event) (w : wellFormed d ≡ true) (g : Agrees d h) (p : d .position ≡ R.positionIn h) (e : Event)
     (r : dataRefusal e ≡ 0) (w′ : wellFormed (applied d e .drive) ≡ true) where
-  bus-next : e .kind ≡ 1 → busActive (d .commands) (pick (on (d .commands .stored)) (next (d .age)) (d .age)) (timeout (d .params)) ≡ R.busIn (e ∷ h)
+  pub bus-next : e .kind ≡ 1 → busActive (d .commands) (pick (on (d .commands .stored)) (next (d .age)) (d .age)) (timeout (d .params)) ≡ R.busIn (e ∷ h)
   bus-next k =
       let o = admitted e r .kind in
       let b : applied d e .drive .commands ≡ d .commands = F.commands-after d e o ∙ rw k in

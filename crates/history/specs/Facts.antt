@@ -80,7 +80,7 @@ first-not : (b : Bool) (n m : ℕ) → NotOne n → NotOne m → NotOne (pick b 
 first-not true n m p q = p
 first-not false n m p q = q
 
-not-one : (s : List ℕ) (m l h : ℕ) (r f : Bool) → NotOne (refusal s m l h r f)
+pub not-one : (s : List ℕ) (m l h : ℕ) (r f : Bool) → NotOne (refusal s m l h r f)
 unfolding refusal recordRefusal dataRefusal stateRefusal
 not-one s m l h r f =
     let e = eventIn s in
@@ -124,7 +124,7 @@ since-law false true false a n e = omega arith
 since-law false false q a n e = e
 
 -- the last report after a restart, a report or neither
-last-law : (r q : Bool) (p s : ℕ) (l : Last) (x y : Sent) → (q ≡ true → x ≡ sent p s) → (q ≡ false → x ≡ silent) → lastOf l ≡ y
+pub last-law : (r q : Bool) (p s : ℕ) (l : Last) (x y : Sent) → (q ≡ true → x ≡ sent p s) → (q ≡ false → x ≡ silent) → lastOf l ≡ y
     → lastOf (pick r (last 0 0 0) (pick q (last 1 p s) l)) ≡ pick r silent (C.orEarlier x y)
 last-law true q p s l x y a b c = refl
 last-law false true p s l x y a b c = rw (a refl)

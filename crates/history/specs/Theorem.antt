@@ -38,7 +38,7 @@ facts d t s g =
     rw (F.step-refused d s (λ z. j (sym (refused-by d t s g) ∙ z)), refused-by d t s g) (facts-refused d t s g j))
 
 -- what is due is sent
-due-sends : (d : Drive) (t : C.Trace) (s : List ℕ) → Good d t → C.Due (momentOf s (stepOf d s)) t
+pub due-sends : (d : Drive) (t : C.Trace) (s : List ℕ) → Good d t → C.Due (momentOf s (stepOf d s)) t
 due-sends d t s g p =
     let j = eqb-true _ 0 (and-left (eqb (R.judgement (C.accepted t) s) 0) _ p) in
     rw (F.step-accepted d s (refused-by d t s g ∙ j)) (due-sent d t s g j p)
@@ -63,7 +63,7 @@ module _ (d : Drive) (t : C.Trace) (s : List ℕ) (o : Outcome) (f : Facts d t s
       }
 
   -- where what is due is sent
-  holds : C.Due (momentOf s o) t → C.Holds (momentOf s o) t
+  pub holds : C.Due (momentOf s o) t → C.Holds (momentOf s o) t
   holds q =
       let h = hall-holds in
       record {

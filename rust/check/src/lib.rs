@@ -10,6 +10,7 @@
 //! reads demand 3 off the list of event records, and `literal` does so word for word. `settle` judges W-207 by
 //! the records and answers of the drive or hall under test, and reads document 01 on its own too.
 
+pub mod audits;
 pub mod bench;
 pub mod cases;
 pub mod catch;

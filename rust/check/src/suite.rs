@@ -1,5 +1,6 @@
 //! All comparisons of a subject, printed.
 
+use crate::audits::{audits, AuditCover};
 use crate::catch::catch;
 use crate::compare::{self, Finding};
 use crate::cover::Cover;
@@ -11,7 +12,7 @@ use crate::subject::{Hall, Subject};
 use crate::wrong;
 use std::time::Instant;
 
-/// A count of `Cover`, `HallCover` or `SettleCover` below this is a failure.
+/// A count of `Cover`, `HallCover`, `SettleCover` or `AuditCover` below this is a failure.
 const LEAST_COVER: u64 = 1_000;
 /// One hall tick that is not refused, at least, for as many events on lists.
 const EVENTS_A_HALL_TICK: u64 = 40;
@@ -23,6 +24,8 @@ const CATCH_WITHIN: u64 = 300_000;
 const CATCH_HALL_WITHIN: u64 = 100_000;
 /// Events on lists for each hall call.
 const EVENTS_A_CALL: u64 = 8;
+/// Events on lists for each record that is audited.
+const EVENTS_AN_AUDIT: u64 = 4;
 /// Events on lists for each stretch of W-207 in single steps, for each hall with such stretches, and for each
 /// stretch that meets the conditions, at least.
 const EVENTS_A_STRETCH: u64 = 30;
@@ -35,7 +38,7 @@ const SETTLE_HALLS_WITHIN: u64 = 20_000;
 /// True if all pass. Each seed gets this many events on lists and single steps.
 pub fn run<S: Subject + Hall + ?Sized>(subject: &S, events: u64, steps: u64, seeds: &[u64]) -> bool {
     let (mut cover, mut hall_cover) = (Cover::default(), HallCover::default());
-    let mut settle_cover = SettleCover::default();
+    let (mut settle_cover, mut audit_cover) = (SettleCover::default(), AuditCover::default());
     let mut passed = true;
     for &seed in seeds {
         passed &= part(&format!("lists, seed {seed}"), || compare::lists(subject, seed, events, &mut cover));
@@ -59,6 +62,11 @@ pub fn run<S: Subject + Hall + ?Sized>(subject: &S, events: u64, steps: u64, see
             settle::halls(subject, seed, events / EVENTS_A_SETTLING_HALL, &mut settle_cover)
         });
     }
+    for &seed in seeds {
+        passed &= part(&format!("audit and outlook, seed {seed}"), || {
+            audits(seed, events / EVENTS_AN_AUDIT, &mut audit_cover)
+        });
+    }
     passed &= part("reader and writer", || compare::bytes(subject, false));
     passed &= part("fixed lists", || compare::fixed(subject));
     passed &= part("false wordings of demand 3", || compare::false_wordings(subject));
@@ -71,6 +79,7 @@ pub fn run<S: Subject + Hall + ?Sized>(subject: &S, events: u64, steps: u64, see
     passed &= covered("met", cover.counts());
     passed &= covered("met in halls", hall_cover.counts());
     passed &= covered("stretches of W-207", settle_cover.counts());
+    passed &= covered("audit and outlook", audit_cover.counts());
     let hall_ticks = events * seeds.len() as u64 / EVENTS_A_HALL_TICK;
     if hall_cover.hall_ticks() < hall_ticks {
         println!("fewer than {hall_ticks} hall ticks");

@@ -59,6 +59,19 @@ impl Rank {
     pub const ALL: [Rank; 7] =
         [Rank::Backup, Rank::Bus, Rank::Tool, Rank::Hand, Rank::Run, Rank::Forcing, Rank::Fault];
 
+    /// The shift page's name.
+    pub const fn name(self) -> &'static str {
+        match self {
+            Rank::Backup => "backup",
+            Rank::Bus => "bus",
+            Rank::Tool => "tool",
+            Rank::Hand => "hand",
+            Rank::Run => "run",
+            Rank::Forcing => "forced",
+            Rank::Fault => "fault",
+        }
+    }
+
     /// Document 01's number, 0 to 6.
     pub const fn number(self) -> u8 {
         self as u8
@@ -175,43 +188,14 @@ impl Answer {
 
     /// Its word and code.
     pub const fn to_parts(self) -> (u8, u32) {
-        let (word, code) = match self {
-            Answer::Refused(refusal) => (0, [0, 0, 0, refusal.number()]),
-            Answer::Done => (1, [0; 4]),
-            Answer::Parameter(value) => {
-                let [high, low] = value.to_be_bytes();
-                (2, [0, 0, high, low])
-            }
-            Answer::Position { position, percent, status } => (3, [0, position, percent, status.0]),
-            Answer::Tick { position, rank, motor, report: None } => {
-                (4, [0, position, rank.number(), motor.number()])
-            }
-            Answer::Tick { position, rank, motor, report: Some(status) } => {
-                (5, [position, rank.number(), motor.number(), status.0])
-            }
-        };
-        (word, u32::from_be_bytes(code))
+        self.said().to_parts()
     }
 }
 
 /// Document 01's printed line without its count.
 impl fmt::Display for Answer {
     fn fmt(&self, f: &mut fmt::Formatter) -> fmt::Result {
-        match *self {
-            Answer::Refused(refusal) => write!(f, "no {}", refusal.number()),
-            Answer::Done => f.write_str("ok"),
-            Answer::Parameter(value) => write!(f, "par {value}"),
-            Answer::Position { position, percent, status } => {
-                write!(f, "at {position} {percent} {}", status.0)
-            }
-            Answer::Tick { position, rank, motor, report } => {
-                write!(f, "tick {position} {} {} ", rank.number(), motor.number())?;
-                match report {
-                    Some(status) => write!(f, "{}", status.0),
-                    None => f.write_str("-"),
-                }
-            }
-        }
+        self.said().fmt(f)
     }
 }
 

@@ -2,7 +2,7 @@
 //! asks anything of its arguments beyond pointers that are valid for their lengths and rows that do not
 //! overlap, and a Rust slice is that. They keep no pointer and have no state of their own.
 
-use crate::{Commands, Drive, Last, Run};
+use crate::{Commands, Drive, Findings, Last, Run};
 use core::mem::{align_of, offset_of, size_of};
 
 #[repr(C)]
@@ -26,6 +26,37 @@ pub struct Found {
 pub struct Replayed {
     pub drive: Drive,
     pub count: usize,
+}
+
+/// Refusal 0 is none.
+#[repr(C)]
+pub struct Outlook {
+    pub refusal: u8,
+    pub rank: u8,
+    pub target: u8,
+    pub position: u8,
+    pub status: u8,
+    pub waited: bool,
+    pub first: bool,
+    pub changed: bool,
+    pub differs: bool,
+    pub period: bool,
+}
+
+#[repr(C)]
+#[derive(Clone, Copy, PartialEq, Eq, Hash, Debug)]
+pub struct Audit {
+    pub drive: Drive,
+    pub seen: u8,
+    pub apart: u16,
+}
+
+/// Refusal 0 is none.
+#[repr(C)]
+pub struct Audited {
+    pub audit: Audit,
+    pub refusal: u8,
+    pub findings: Findings,
 }
 
 // libhost.a
@@ -74,6 +105,13 @@ extern "C" {
     fn damper_hall_page(row: *const Drive, drives: usize, page: *mut u8, bytes: usize) -> u8;
 }
 
+// libhost_audit.a
+extern "C" {
+    fn damper_look_ahead(drive: Drive) -> Outlook;
+    fn damper_audit_fresh() -> Audit;
+    fn damper_audit_hear(audit: Audit, bytes: *const u8, length: usize, word: u8, code: u32) -> Audited;
+}
+
 const _: () = {
     assert!(size_of::<Drive>() == 46 && align_of::<Drive>() == 2);
     assert!(size_of::<Commands>() == 8);
@@ -113,6 +151,40 @@ const _: () = {
     assert!(size_of::<Replayed>() == 56 && align_of::<Replayed>() == 8);
     assert!(offset_of!(Replayed, drive) == 0);
     assert!(offset_of!(Replayed, count) == 48);
+
+    assert!(size_of::<Outlook>() == 10 && align_of::<Outlook>() == 1);
+    assert!(offset_of!(Outlook, refusal) == 0);
+    assert!(offset_of!(Outlook, rank) == 1);
+    assert!(offset_of!(Outlook, target) == 2);
+    assert!(offset_of!(Outlook, position) == 3);
+    assert!(offset_of!(Outlook, status) == 4);
+    assert!(offset_of!(Outlook, waited) == 5);
+    assert!(offset_of!(Outlook, first) == 6);
+    assert!(offset_of!(Outlook, changed) == 7);
+    assert!(offset_of!(Outlook, differs) == 8);
+    assert!(offset_of!(Outlook, period) == 9);
+
+    assert!(size_of::<Audit>() == 50 && align_of::<Audit>() == 2);
+    assert!(offset_of!(Audit, drive) == 0);
+    assert!(offset_of!(Audit, seen) == 46);
+    assert!(offset_of!(Audit, apart) == 48);
+
+    assert!(size_of::<Findings>() == 10 && align_of::<Findings>() == 1);
+    assert!(offset_of!(Findings, spacing) == 0);
+    assert!(offset_of!(Findings, waiting) == 1);
+    assert!(offset_of!(Findings, moving) == 2);
+    assert!(offset_of!(Findings, position) == 3);
+    assert!(offset_of!(Findings, content) == 4);
+    assert!(offset_of!(Findings, othermove) == 5);
+    assert!(offset_of!(Findings, otherreport) == 6);
+    assert!(offset_of!(Findings, due) == 7);
+    assert!(offset_of!(Findings, refusal) == 8);
+    assert!(offset_of!(Findings, answer) == 9);
+
+    assert!(size_of::<Audited>() == 62 && align_of::<Audited>() == 2);
+    assert!(offset_of!(Audited, audit) == 0);
+    assert!(offset_of!(Audited, refusal) == 50);
+    assert!(offset_of!(Audited, findings) == 51);
 };
 
 #[inline]
@@ -193,4 +265,23 @@ pub fn hall_page(row: &[Drive], page: &mut [u8]) -> u8 {
     // SAFETY: each pointer goes with the length of its slice, and one that is lent mutably overlaps no other;
     // any bytes are a `Drive`.
     unsafe { damper_hall_page(row.as_ptr(), row.len(), page.as_mut_ptr(), page.len()) }
+}
+
+#[inline]
+pub fn look_ahead(drive: &Drive) -> Outlook {
+    // SAFETY: the record passes by value, and any bytes are one; each bool of the result is 0 or 1.
+    unsafe { damper_look_ahead(*drive) }
+}
+
+#[inline]
+pub fn audit_fresh() -> Audit {
+    // SAFETY: it takes nothing, and any bytes are an `Audit`.
+    unsafe { damper_audit_fresh() }
+}
+
+#[inline]
+pub fn audit_hear(audit: &Audit, bytes: &[u8], word: u8, code: u32) -> Audited {
+    // SAFETY: the audit passes by value, and any bytes are one; the pointer goes with the length of its
+    // slice; each bool of the result is 0 or 1.
+    unsafe { damper_audit_hear(*audit, bytes.as_ptr(), bytes.len(), word, code) }
 }

@@ -1,11 +1,12 @@
 //! The proved damper drive of documents 01 and 02, alone and in a hall, for hosts in Rust. The drive itself is
 //! in the archives `libhost.a` and `libhost_replay.a`, the calls on a hall of drives in `libhall_event.a`,
-//! `libhall_tick.a` and `libhall_page.a`, written and proved in Rattle; this crate gives their numbers types and
-//! decides nothing.
+//! `libhall_tick.a` and `libhall_page.a`, what a tick goes by and the audit of a drive's answers in
+//! `libhost_audit.a`, written and proved in Rattle; this crate gives their numbers types and decides nothing.
 //!
 //! Cargo links them from the folder that the environment variable DAMPER_ARCHIVES names, or from the
 //! repository's target/staticlib, where `rt staticlib host`, `rt staticlib host_replay`,
-//! `rt staticlib hall_event`, `rt staticlib hall_tick` and `rt staticlib hall_page` write them.
+//! `rt staticlib host_audit`, `rt staticlib hall_event`, `rt staticlib hall_tick` and
+//! `rt staticlib hall_page` write them.
 //!
 //! ```
 //! use damper::{Answer, Drive, Event, Parameter, Rank, Refusal};
@@ -25,7 +26,8 @@
 //! assert_eq!(Drive::restore(stored), Ok(drive));
 //! ```
 //!
-//! A hall holds up to 64 drives in one row: [`hall_event`], [`hall_tick`] and [`hall_page`].
+//! A hall holds up to 64 drives in one row: [`hall_event`], [`hall_tick`] and [`hall_page`]. [`Audit`] holds the
+//! answers of any drive against the list of its event records.
 
 #![no_std]
 #![warn(missing_docs)]
@@ -34,18 +36,22 @@
 compile_error!("the archives of the proved drive are for x86-64");
 
 mod answer;
+mod audit;
 mod drive;
 mod event;
 mod exported;
 mod hall;
+mod outlook;
 mod parameter;
 mod refusal;
 
 pub use answer::{Answer, Motor, Rank, Status};
+pub use audit::{Audit, Findings, Said};
 pub use drive::{Commands, Drive, Last, Run};
 pub use event::{read, write, Command, Event};
 pub use hall::{
     hall_event, hall_page, hall_tick, HallAnswer, HallRefusal, HallTick, HALL_LINE, HALL_MOST, HALL_QUOTA,
 };
+pub use outlook::Outlook;
 pub use parameter::Parameter;
 pub use refusal::Refusal;

@@ -66,6 +66,24 @@ impl Parameter {
         Parameter::High,
     ];
 
+    /// Document 01's name.
+    pub const fn name(self) -> &'static str {
+        match self {
+            Parameter::DamperMode => "DamperMode",
+            Parameter::OpenCloseDirection => "OpenCloseDirection",
+            Parameter::ActPosCov => "ActPosCOV",
+            Parameter::MinRepTime => "MinRepTime",
+            Parameter::BackupMode => "BackupMode",
+            Parameter::BackupValue => "BackupValue",
+            Parameter::StartSynchronization => "StartSynchronization",
+            Parameter::Timeout => "Timeout",
+            Parameter::RepPer => "RepPer",
+            Parameter::Rate => "Rate",
+            Parameter::Low => "Low",
+            Parameter::High => "High",
+        }
+    }
+
     /// The number in an event record.
     pub const fn number(self) -> u8 {
         TABLE[self.place()].0

@@ -1,0 +1,25 @@
+use Rattle.audit.specs.Audit as A
+use borrow.Author.Needs.{needs}
+use Rattle.audit.proofs.Audit.followed.Statement.{statement}
+use Rattle.audit.proofs.Audit.followed.Tie as tie
+
+returns : tie.Need-returns
+unfolding A.followed
+returns c =
+    let known = c .before .before .before .before .before in
+    simp (
+      c .pick162 .ensures,
+      c .before .with-heard .ensures,
+      c .before .before .pick16 .ensures,
+      known .pick-last2 .ensures,
+      known .before .pick-last .ensures,
+      known .before .before .counted2 .ensures,
+      known .before .before .before .counted .ensures,
+    )
+
+pub followed-spec : {M : Type 1} → statement M
+followed-spec =
+    tie.close
+    (tie.spec
+    (λ c κs. search needs) (λ c κs. search needs) (λ c κs. search needs) (λ c κs. search needs) (λ c κs. search needs)
+    (λ c κs. search needs) (λ c κs. search needs) returns)

@@ -1,0 +1,270 @@
+//! The sentences of the claim, and what is wrong where one fails.
+
+use crate::explain::speech::{differences, joined, many, place, reasons, rule, status, too_early, unchanged};
+use damper::{Answer, Audit, Drive, Event, Findings, Outlook, Parameter, Refusal, Said, Status};
+
+/// In the order in which they are printed.
+#[derive(Clone, Copy, PartialEq, Eq, Debug)]
+pub enum Sentence {
+    Spacing,
+    Waiting,
+    Moving,
+    Position,
+    Content,
+    OtherMove,
+    OtherReport,
+    Due,
+    Refusal,
+    Answer,
+}
+
+impl Sentence {
+    pub const ALL: [Sentence; 10] = [
+        Sentence::Spacing,
+        Sentence::Waiting,
+        Sentence::Moving,
+        Sentence::Position,
+        Sentence::Content,
+        Sentence::OtherMove,
+        Sentence::OtherReport,
+        Sentence::Due,
+        Sentence::Refusal,
+        Sentence::Answer,
+    ];
+
+    pub const fn name(self) -> &'static str {
+        match self {
+            Sentence::Spacing => "spacing",
+            Sentence::Waiting => "waiting",
+            Sentence::Moving => "moving",
+            Sentence::Position => "position",
+            Sentence::Content => "content",
+            Sentence::OtherMove => "othermove",
+            Sentence::OtherReport => "otherreport",
+            Sentence::Due => "due",
+            Sentence::Refusal => "refusal",
+            Sentence::Answer => "answer",
+        }
+    }
+
+    /// Whether it fails.
+    pub const fn fails(self, findings: &Findings) -> bool {
+        match self {
+            Sentence::Spacing => findings.spacing,
+            Sentence::Waiting => findings.waiting,
+            Sentence::Moving => findings.moving,
+            Sentence::Position => findings.position,
+            Sentence::Content => findings.content,
+            Sentence::OtherMove => findings.othermove,
+            Sentence::OtherReport => findings.otherreport,
+            Sentence::Due => findings.due,
+            Sentence::Refusal => findings.refusal,
+            Sentence::Answer => findings.answer,
+        }
+    }
+
+    /// Whether another sentence that fails says it already: `answer` is told where nothing else is, `due`
+    /// where neither `waiting` nor `spacing` is.
+    pub fn echoes(self, findings: &Findings) -> bool {
+        match self {
+            Sentence::Due => findings.due && (findings.waiting || findings.spacing),
+            Sentence::Answer => {
+                findings.answer && *findings != Findings { answer: true, ..Findings::default() }
+            }
+            _ => false,
+        }
+    }
+}
+
+/// What a drive said to an event record, and what document 01's drive makes of it.
+pub struct Heard {
+    pub said: Said,
+    pub findings: Findings,
+    /// Before the record.
+    pub audit: Audit,
+    /// Document 01's drive and its answer, had it sent the reports so far.
+    pub drive: Drive,
+    pub answer: Answer,
+    /// Accepted ticks, a present one counted.
+    pub ticks: u64,
+    /// Whether there was a restart.
+    pub restarted: bool,
+}
+
+impl Heard {
+    /// An accepted tick.
+    pub fn is_tick(&self) -> bool {
+        matches!(self.answer, Answer::Tick { .. })
+    }
+
+    pub fn is_report(&self) -> bool {
+        self.report().is_some()
+    }
+
+    /// Whether the sentence speaks of such a record: one at which it holds ends a stretch at which it fails.
+    pub fn judged(&self, sentence: Sentence) -> bool {
+        match sentence {
+            Sentence::Spacing | Sentence::Content => self.is_report(),
+            Sentence::Waiting | Sentence::Moving | Sentence::Due => self.is_tick(),
+            Sentence::OtherMove | Sentence::OtherReport => !self.is_tick(),
+            Sentence::Position | Sentence::Refusal | Sentence::Answer => true,
+        }
+    }
+
+    /// In which way it fails: records of one stretch fail in the same way.
+    pub fn way(&self, sentence: Sentence) -> u8 {
+        match sentence {
+            Sentence::Due => self.is_report().into(),
+            Sentence::Refusal => match (self.said, self.answer) {
+                (Said::Refused(_), Answer::Refused(_)) => 0,
+                (Said::Refused(_), _) => 1,
+                _ => 2,
+            },
+            _ => 0,
+        }
+    }
+
+    /// The first of the ticks that it spans; the last is the present one, or the one before.
+    pub fn from(&self, sentence: Sentence) -> u64 {
+        match sentence {
+            Sentence::Spacing => self.ticks - self.apart(),
+            Sentence::Waiting => self.ticks + 1 - self.min_rep_time(),
+            _ => self.ticks,
+        }
+    }
+
+    /// What is wrong.
+    pub fn detail(&self, sentence: Sentence) -> String {
+        match sentence {
+            Sentence::Spacing => format!(
+                "a report comes {} after the one before it, and MinRepTime is {}",
+                many(self.apart(), "tick"),
+                self.min_rep_time()
+            ),
+            Sentence::Waiting => format!(
+                "MinRepTime, {}, passes without report or restart and leaves {}, although {}",
+                many(self.min_rep_time(), "tick"),
+                self.left(),
+                joined(&differences(self.audit.drive(), &self.outlook(), self.restarted))
+            ),
+            Sentence::Moving => self.moving(),
+            Sentence::Position => {
+                let shown = if self.shown().is_some() { "is" } else { "was last" };
+                let (position, due) = (place(self.position()), place(self.drive.position));
+                format!("the damper {shown} shown at {position}, and by the list it is at {due}")
+            }
+            Sentence::Content => {
+                let said = self.report().map_or(0, |(_, status)| status);
+                let said = format!("position {}, status {}", self.position(), status(Status(said)));
+                format!("the report gives {said}, and there are {}", self.left())
+            }
+            Sentence::OtherMove => {
+                let (from, to) = (place(self.audit.seen()), place(self.position()));
+                format!("without a tick the damper goes from {from} to {to}")
+            }
+            Sentence::OtherReport => format!("without a tick there is a report, `{}`", self.said),
+            Sentence::Due => self.due(),
+            Sentence::Refusal => self.refusal(),
+            Sentence::Answer => {
+                format!("`{}`, and document 01's drive answers `{}`", self.said, self.answer)
+            }
+        }
+    }
+
+    fn moving(&self) -> String {
+        let from = self.audit.seen();
+        let there = Drive { position: from, ..*self.audit.drive() };
+        let outlook = outlook(&there);
+        let to = outlook.position;
+        let way = match self.shown() {
+            None => format!("no position is said; the damper was at {from} and comes to {to}"),
+            Some(said) if said == from => format!("the damper stays at {from} and does not go to {to}"),
+            Some(said) if to == from => format!("the damper goes from {from} to {said} and does not stay"),
+            Some(said) => format!("the damper goes from {from} to {said} and not to {to}"),
+        };
+        let rate = there.parameter(Parameter::Rate);
+        format!("{way}: {}, Rate is {rate}", rule(&there, &outlook))
+    }
+
+    fn due(&self) -> String {
+        let (drive, outlook) = (self.audit.drive(), self.outlook());
+        if !self.is_report() {
+            let reasons = joined(&reasons(drive, &outlook, self.restarted));
+            return format!("a report of {} is due, because {reasons}, and none comes", self.left());
+        }
+        let none = match outlook.waited {
+            true => unchanged(drive, &outlook, self.drive.since),
+            false => too_early(drive, self.drive.since),
+        };
+        format!("a report comes and none is due: {none}")
+    }
+
+    fn refusal(&self) -> String {
+        let said = match self.said {
+            Said::Refused(number) => format!("refused by {}", named(number)),
+            _ => "carried out".to_string(),
+        };
+        let due = match self.answer {
+            Answer::Refused(refusal) => format!("refuses it by {} ({refusal})", refusal.number()),
+            _ => "carries it out".to_string(),
+        };
+        format!("{said}, and document 01's drive {due}")
+    }
+
+    /// What a tick goes by that finds document 01's drive so.
+    fn outlook(&self) -> Outlook {
+        outlook(self.audit.drive())
+    }
+
+    /// Position and status that the record leaves.
+    fn left(&self) -> String {
+        let mut read = self.drive;
+        match read.give(Event::ReadPosition) {
+            Answer::Position { position, status: left, .. } => {
+                format!("position {position}, status {}", status(left))
+            }
+            answer => answer.to_string(),
+        }
+    }
+
+    fn min_rep_time(&self) -> u64 {
+        self.drive.parameter(Parameter::MinRepTime).into()
+    }
+
+    /// Ticks since the report before, the present one counted.
+    fn apart(&self) -> u64 {
+        u64::from(self.audit.apart().unwrap_or(0)) + u64::from(self.is_tick())
+    }
+
+    fn report(&self) -> Option<(u8, u8)> {
+        match self.said {
+            Said::Tick { position, report: Some(status), .. } => Some((position, status)),
+            _ => None,
+        }
+    }
+
+    /// The position that is said.
+    fn shown(&self) -> Option<u8> {
+        match self.said {
+            Said::Tick { position, .. } | Said::Position { position, .. } => Some(position),
+            _ => None,
+        }
+    }
+
+    /// The position that is said, or was last.
+    fn position(&self) -> u8 {
+        self.shown().unwrap_or(self.audit.seen())
+    }
+}
+
+fn outlook(drive: &Drive) -> Outlook {
+    drive.outlook().expect("a drive from fresh is well formed")
+}
+
+/// The number of a refusal, which may be none of document 01's.
+fn named(number: u8) -> String {
+    match Refusal::numbered(number) {
+        Some(refusal) => format!("{number} ({refusal})"),
+        None => format!("{number}, which is none of 1 to 13"),
+    }
+}

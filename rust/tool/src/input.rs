@@ -1,0 +1,187 @@
+//! Input: a file or standard input, as event records, as lines or whole, with progress for a person who waits.
+
+use crate::failure::Failure;
+use crate::output::Output;
+use std::ffi::OsStr;
+use std::fs::File;
+use std::io::{self, IsTerminal, Read, Write};
+use std::sync::atomic::{AtomicBool, Ordering};
+use std::time::{Duration, Instant};
+
+/// Bytes of an event record.
+pub const RECORD: usize = 6;
+
+/// Bytes that are asked for at once.
+const PIECE: usize = 1 << 16;
+
+/// Bytes of a line at most.
+const LINE: usize = 1 << 20;
+
+/// Where bytes come from, its name for messages, and those at hand.
+pub struct Input {
+    source: Box<dyn Read>,
+    name: String,
+    /// Bytes taken so far.
+    taken: u64,
+    buffer: Vec<u8>,
+    /// The bytes of the buffer that have come and are not taken yet.
+    start: usize,
+    end: usize,
+    ended: bool,
+    progress: Progress,
+}
+
+impl Input {
+    /// The file of that path, or standard input for `-` and for none.
+    pub fn open(path: Option<impl AsRef<OsStr>>) -> Result<Input, Failure> {
+        let path = path.as_ref().map(AsRef::as_ref).filter(|path| *path != "-");
+        let Some(path) = path else {
+            return Ok(Input::new("standard input", io::stdin().lock()));
+        };
+        let name = path.to_string_lossy();
+        let file = File::open(path).map_err(|error| Failure::stream(&name, None, error))?;
+        Ok(Input::new(&name, file))
+    }
+
+    /// Any source under a name.
+    pub fn new(name: &str, source: impl Read + 'static) -> Input {
+        Input {
+            source: Box::new(source),
+            name: name.to_string(),
+            taken: 0,
+            buffer: vec![0; PIECE],
+            start: 0,
+            end: 0,
+            ended: false,
+            progress: Progress::new(),
+        }
+    }
+
+    /// Without progress, for the second of two.
+    pub fn quiet(mut self) -> Input {
+        self.progress.looked_on = false;
+        self
+    }
+
+    pub fn name(&self) -> &str {
+        &self.name
+    }
+
+    /// Waits for the first bytes, so that an input that cannot be read is known before an output is made.
+    pub fn begin(&mut self) -> Result<(), Failure> {
+        while self.start == self.end && !self.ended {
+            self.more(&mut Output::none())?;
+        }
+        Ok(())
+    }
+
+    /// The next event record: six bytes, or a shorter rest. What was written goes out before a wait.
+    pub fn record(&mut self, output: &mut Output) -> Result<Option<&[u8]>, Failure> {
+        while self.end - self.start < RECORD && !self.ended {
+            self.more(output)?;
+        }
+        Ok(self.take(RECORD.min(self.end - self.start)))
+    }
+
+    /// The next line without its line feed; the last one may have none. What was written goes out before a wait.
+    pub fn line(&mut self, output: &mut Output) -> Result<Option<&[u8]>, Failure> {
+        let mut searched = 0;
+        loop {
+            let at_hand = &self.buffer[self.start..self.end];
+            if let Some(found) = at_hand[searched..].iter().position(|byte| *byte == b'\n') {
+                let line = self.take(searched + found + 1);
+                return Ok(line.map(|line| &line[..line.len() - 1]));
+            }
+            searched = at_hand.len();
+            if self.ended {
+                return Ok(self.take(searched));
+            }
+            if searched > LINE {
+                let error = io::Error::new(io::ErrorKind::InvalidData, "a line of more than 1 MiB");
+                return Err(Failure::stream(&self.name, Some(self.taken), error));
+            }
+            self.more(output)?;
+        }
+    }
+
+    /// All that is left.
+    pub fn rest(&mut self, output: &mut Output) -> Result<Vec<u8>, Failure> {
+        while !self.ended {
+            self.more(output)?;
+        }
+        let rest = self.take(self.end - self.start);
+        Ok(rest.unwrap_or_default().to_vec())
+    }
+
+    /// So many of the bytes at hand; None for no bytes.
+    fn take(&mut self, count: usize) -> Option<&[u8]> {
+        let from = self.start;
+        self.start += count;
+        self.taken += count as u64;
+        (count > 0).then(|| &self.buffer[from..from + count])
+    }
+
+    /// Waits for bytes to come, or for the end.
+    fn more(&mut self, output: &mut Output) -> Result<(), Failure> {
+        output.flush()?;
+        self.progress.show(self.taken);
+        self.buffer.copy_within(self.start..self.end, 0);
+        (self.start, self.end) = (0, self.end - self.start);
+        if self.buffer.len() - self.end < PIECE / 2 {
+            self.buffer.resize(2 * self.buffer.len(), 0);
+        }
+        match self.source.read(&mut self.buffer[self.end..]) {
+            Ok(0) => {
+                self.ended = true;
+                clear_progress();
+            }
+            Ok(count) => self.end += count,
+            Err(error) if error.kind() == io::ErrorKind::Interrupted => {}
+            Err(error) => {
+                let bytes = self.taken + (self.end - self.start) as u64;
+                return Err(Failure::stream(&self.name, Some(bytes), error));
+            }
+        }
+        Ok(())
+    }
+}
+
+/// How much of a long input has passed, on standard error while a terminal looks on.
+struct Progress {
+    looked_on: bool,
+    next: Instant,
+}
+
+/// Whether progress stands on the terminal.
+static SHOWN: AtomicBool = AtomicBool::new(false);
+
+/// Takes progress off the terminal, where something else is to stand.
+pub fn clear_progress() {
+    if SHOWN.swap(false, Ordering::Relaxed) {
+        let _ = write!(io::stderr(), "\r\x1b[K");
+    }
+}
+
+impl Progress {
+    /// The first time after which something is shown, and then how often.
+    const FIRST: Duration = Duration::from_secs(1);
+    const EACH: Duration = Duration::from_millis(200);
+
+    fn new() -> Progress {
+        Progress { looked_on: io::stderr().is_terminal(), next: Instant::now() + Progress::FIRST }
+    }
+
+    fn show(&mut self, bytes: u64) {
+        if self.looked_on && Instant::now() >= self.next {
+            let _ = write!(io::stderr(), "\rdamper: {} KiB", bytes >> 10);
+            self.next = Instant::now() + Progress::EACH;
+            SHOWN.store(true, Ordering::Relaxed);
+        }
+    }
+}
+
+impl Drop for Progress {
+    fn drop(&mut self) {
+        clear_progress();
+    }
+}

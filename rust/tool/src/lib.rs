@@ -1,0 +1,16 @@
+//! The command `damper`: events in words, a log explained, drawn and audited. Every judgement comes from the
+//! proved archives through the crate `damper`; here is parsed and shown.
+
+pub mod audit;
+pub mod command;
+pub mod draw;
+pub mod explain;
+pub mod failure;
+pub mod input;
+pub mod lines;
+pub mod nearest;
+pub mod output;
+pub mod percent;
+pub mod recording;
+pub mod scenario;
+pub mod words;
