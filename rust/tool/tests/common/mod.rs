@@ -29,7 +29,7 @@ pub fn records_of(path: &Path) -> Vec<u8> {
 
 /// A scenario of the documentation.
 pub fn documented(name: &str) -> PathBuf {
-    Path::new(env!("CARGO_MANIFEST_DIR")).join("../../docs/scenarios").join(name)
+    repository("docs/scenarios").join(name)
 }
 
 /// A folder for one test's files.
@@ -43,16 +43,26 @@ pub fn golden(name: &str) -> PathBuf {
     Path::new(env!("CARGO_MANIFEST_DIR")).join("tests/golden").join(name)
 }
 
-/// Compares with a golden file, or writes it where the environment variable DAMPER_GOLDEN is `write`.
+/// Compares with a golden file.
 pub fn as_golden(name: &str, text: &str) {
-    let path = golden(name);
+    as_kept(&golden(name), text);
+}
+
+/// Compares with a file that is kept, or writes it where the environment variable DAMPER_GOLDEN is `write`.
+pub fn as_kept(path: &Path, text: &str) {
     if env::var("DAMPER_GOLDEN").is_ok_and(|what| what == "write") {
-        fs::write(&path, text).unwrap();
+        fs::write(path, text).unwrap();
     }
-    let kept = fs::read_to_string(&path).unwrap_or_else(|error| panic!("{}: {error}", path.display()));
+    let name = path.display();
+    let kept = fs::read_to_string(path).unwrap_or_else(|error| panic!("{name}: {error}"));
     let differs = kept.lines().zip(text.lines()).enumerate().find(|(_, (kept, now))| kept != now);
     assert!(differs.is_none(), "{name}: {differs:?}");
     assert_eq!(kept, text, "{name}");
+}
+
+/// A file of the repository.
+pub fn repository(name: &str) -> PathBuf {
+    Path::new(env!("CARGO_MANIFEST_DIR")).join("../..").join(name)
 }
 
 /// An output, and what was written to it.
