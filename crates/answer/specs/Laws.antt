@@ -1,6 +1,6 @@
 -- An answer is found again by its two numbers.
 use mathlib.Core.Path.{_≡_, refl}
-use Prim.Native.Nat.{ℕ, _+_, _*_, _/_, _%_, _<_}
+use Prim.Native.Nat.{ℕ, zero, suc, _+_, _*_, _/_, _%_, _<_}
 use native.Mathlib.Omega.{arith}
 use Rattle.answer.specs.declared.Answer.{Answer}
 use Rattle.answer.specs.declared.Answer.the-variants.{No, Done, Par, At, Tick, Report}
@@ -25,6 +25,7 @@ three f x y z h =
     let z· : n % 256 ≡ z = omega arith in
     rw (x·, y·, z·)
 
+-- The answer that has these two numbers is the answer itself.
 pub answer-again : (a : Answer) → Fits a → answerOf (wordOf a) (codeOf a) ≡ a
 answer-again (No n) h = let e : n % 256 ≡ n = omega arith in rw e
 answer-again Done h = refl
@@ -38,3 +39,12 @@ answer-again (Report p r m s) h =
     let m· : n / 256 % 256 ≡ m = omega arith in
     let s· : n % 256 ≡ s = omega arith in
     rw (p·, r·, m·, s·)
+
+-- Every pair of numbers is read as an answer whose values fit.
+pub answer-fits : (w n : ℕ) → Fits (answerOf w n)
+answer-fits zero n = omega arith
+answer-fits (suc zero) n = tt
+answer-fits (suc (suc zero)) n = omega arith
+answer-fits (suc (suc (suc zero))) n = omega arith
+answer-fits (suc (suc (suc (suc zero)))) n = omega arith
+answer-fits (suc (suc (suc (suc (suc w))))) n = omega arith

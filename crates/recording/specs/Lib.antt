@@ -5,4 +5,5 @@ pub mod Told
 pub mod Follows
 pub mod Theorem
 pub mod Own
+pub mod Same
 pub mod Witnesses

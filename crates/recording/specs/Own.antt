@@ -90,7 +90,7 @@ last-whole l h =
     let s = eqb-true _ 0 (and-right (isFlag (l .reported) && eqb (l .position) 0) _ k) in
     rw z (λ i. last (r i) (p i) (s i)))
 
-same-drive : (a : Audit) (d : Drive) (t : C.Trace) → Follows a t → Good d t → a .drive .wait ≡ d .wait → a .drive ≡ d
+pub same-drive : (a : Audit) (d : Drive) (t : C.Trace) → Follows a t → Good d t → a .drive .wait ≡ d .wait → a .drive ≡ d
 same-drive a d t f g w =
     let p = f .position ∙ sym (g .position) in
     let q = f .agrees .params ∙ sym (g .agrees .params) in
@@ -125,13 +125,13 @@ unfolding auditOf findingsOf metBy
 same-answer a s y w e = rw (w, e, eq-eqb (wordOf y) (wordOf y) refl, eq-eqb (codeOf y) (codeOf y) refl)
 
 -- the audit keeps the wait of document 01's drive
-wait-kept : (a : Audit) (s : List ℕ) (y : Answer) → wellFormed (a .drive) ≡ true
+pub wait-kept : (a : Audit) (s : List ℕ) (y : Answer) → wellFormed (a .drive) ≡ true
     → auditOf a s y .audit .drive .wait ≡ stepOf (a .drive) s .drive .wait
 unfolding auditOf followed metBy
 wait-kept a s y w = rw w
 
 -- what is heard of a record is what happened, its position too
-own-heard : (d : Drive) (t : C.Trace) (s : List ℕ) → Good d t
+pub own-heard : (d : Drive) (t : C.Trace) (s : List ℕ) → Good d t
     → momentOf s (stepOf d s) ≡ heardAs t record { bytes = s; answer = stepOf d s .answer }
 own-heard d t s g =
     let p : stepOf d s .drive .position ≡ shownIn (C.positionAfter t) (stepOf d s .answer) = rw (g .trace) (sym (step-shown d s (g .wf))) in

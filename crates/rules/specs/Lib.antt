@@ -5,5 +5,6 @@ pub mod Rank
 pub mod RankLaws
 pub mod TargetLaws
 pub mod Report
+pub mod ReportLaws
 pub mod Refusal
 pub mod RefusalLaws

@@ -37,7 +37,8 @@ rank-is a k w lo hi =
     let v : k < R.rulingRank a + 1 = lt-of-not-le (λ q. absurd (not-le-of-lt (t .1) (le-trans (pow-mono q) lo))) in
     omega arith
 
-bit-le : (x : Bool) (w : ℕ) → bit x w ≤ w
+-- a flag counts at most its weight
+pub bit-le : (x : Bool) (w : ℕ) → bit x w ≤ w
 bit-le true w = omega arith
 bit-le false w = omega arith
 

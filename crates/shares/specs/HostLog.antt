@@ -1,17 +1,16 @@
 -- The log that a host keeps of one drive of its hall, read off the numbers that its hall ticks give.
 use mathlib.Core.Path.{_≡_, refl, sym, ap, _∙_}
-use mathlib.Core.Bool.{Bool, true, false, not, _||_}
+use mathlib.Core.Bool.{Bool, true, false}
 use mathlib.Core.List.{List, [], _∷_, _++_, map}
-use Prim.Native.Nat.{ℕ, _+_, _*_, _-_, _/_, _%_, _<_, _≤_}
+use Prim.Native.Nat.{ℕ, _+_, _*_, _-_, _/_, _%_, _<_}
 use native.Mathlib.Omega.{arith}
 use lib.Dec.{eqb}
 use lib.ListN.{length, getD}
 use borrow.Author.Tests.{le-leb, eqb-true}
-use Rattle.numbers.specs.Numbers.{pick, on, bit}
+use Rattle.numbers.specs.Numbers.{pick}
 use Rattle.numbers.specs.Laws.{cases}
-use Rattle.rules.specs.declared.Commands.{Commands}
-use Rattle.rules.specs.Rank.{calibrating, syncing, forced}
-use Rattle.rules.specs.Report.{status, Sent, silent, sent}
+use Rattle.rules.specs.Report.{Sent, silent, sent}
+use Rattle.rules.specs.ReportLaws.{status-byte}
 use Rattle.damper.specs.declared.Drive.{Drive}
 use Rattle.damper.specs.declared.Outcome.{Outcome}
 use Rattle.damper.specs.Record.{freshDrive}
@@ -64,20 +63,6 @@ abbrev pub sentIn : List Entry → List Sent
 sentIn es = map (λ (e : Entry). sent (e .position) (e .status)) es
 
 -- A number says what the answer does, for every record.
-
-bit-most : (b : Bool) (w : ℕ) → bit b w ≤ w
-bit-most true w = omega arith
-bit-most false w = omega arith
-
-status-byte : (c : Commands) (r : ℕ) (b : Bool) → status c r b < 256
-unfolding status
-status-byte c r b =
-    let one = bit-most (on (c .fault)) 1 in
-    let two = bit-most (on (c .hand) || on (c .tool)) 2 in
-    let run = bit-most (calibrating r) 4 in
-    let sync = bit-most (syncing r) 8 in
-    let force = bit-most (forced (c .forcing)) 16 in
-    omega (arith, one, two, run, sync, force, bit-most (not b) 32)
 
 report-read : (p s : ℕ) → s < 256 → readOff (65536 + 256 * p + s) ≡ sent p s
 report-read p s h =
