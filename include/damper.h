@@ -307,11 +307,11 @@ typedef struct damper_outlook {
     uint8_t target;   /* the position to which that leads */
     uint8_t position; /* that the tick would leave */
     uint8_t status;   /* that the tick would leave, bits of enum damper_status */
-    bool waited;      /* MinRepTime has passed since the last report or restart; only then a report goes out, if: */
+    bool waited;      /* MinRepTime has passed, by `since` with this tick; only then a report goes out, if: */
     bool first;       /* there was none yet, or none since the last restart, */
     bool changed;     /* or the position differs from the last reported one by ActPosCOV or more, */
     bool differs;     /* or the status from the last reported one, */
-    bool period;      /* or RepPer has passed since the last report or restart */
+    bool period;      /* or RepPer has passed, by `since` with this tick */
 } damper_outlook;
 
 /* An audit: what it keeps from one event record to the next. Only damper_audit_fresh and damper_audit_hear make it. */
@@ -324,10 +324,10 @@ typedef struct damper_audit {
 /* What damper_audit_hear found at an event record: the sentences that do not hold there. */
 typedef struct damper_findings {
     bool spacing;     /* two reports fewer ticks apart than MinRepTime */
-    bool waiting;     /* MinRepTime ticks without report and restart, and position or status differ from what was reported */
+    bool waiting;     /* MinRepTime ticks without report and restart, and what the last leaves differs from what was reported */
     bool moving;      /* a tick does not move the damper by Rate or the distance toward the target of who rules */
     bool position;    /* the position is not the one that the event records make */
-    bool content;     /* a report does not give the position and the status that its tick leaves */
+    bool content;     /* a report does not give the position and the status that its tick leaves, by the event records */
     bool othermove;   /* another event than a tick moves the damper */
     bool otherreport; /* another event than a tick sends a report */
     bool due;         /* a tick is silent though a report is due, or reports though none is, by the reports so far */
@@ -396,9 +396,9 @@ damper_audit damper_audit_fresh(void);
 /*
  * Holds the answer that a drive, this one or another maker's, gave to an event record against the list of event records that it
  * was given, fresh at first; word and code are as said at enum damper_word, and a word above REPORT is taken as REPORT. Of that
- * drive nothing is known but its answers: where one shows no position, the damper is taken to stand where it was last seen.
- * Each finding is true exactly where its sentence does not hold at this record. Nothing is ever found in the answers of
- * damper_step.
+ * drive nothing is known but its answers: where one shows no position, the damper is taken to stand where it was last shown.
+ * Each finding but `answer` is true exactly where its sentence of demand 3's claim does not hold at this record. Where `answer`
+ * is never found, each answer was that of damper_step, in whose answers nothing is ever found.
  */
 damper_audited damper_audit_hear(damper_audit audit, const uint8_t *bytes, size_t length, uint8_t word, uint32_t code);
 

@@ -1,9 +1,9 @@
 //! The proved audit and the proved outlook, over the answers of right and wrong drives, some of them changed at
 //! random: against the checker, which reads demand 3 off the list on its own, and for what that does not look at
-//! against the second implementation.
+//! against the second implementation, carried along the list with the reports that were heard.
 //!
 //! A recording shows a position only where an answer does, so the checker is given the one that was last shown.
-//! It does not count a report that answers another event than a tick; a list ends there.
+//! It does not count a report that answers another event than a tick, so a list ends there.
 
 use crate::check::{Breach, Checker, Clause};
 use crate::compare::{hex, Finding};
@@ -12,7 +12,7 @@ use crate::model::Model;
 use crate::subject::Subject;
 use crate::table::Param;
 use crate::wrong;
-use damper::{Answer, Audit, Drive, Findings, Motor, Outlook, Rank, Refusal, Status};
+use damper::{Answer, Audit, Drive, Findings, Last, Motor, Outlook, Rank, Refusal, Status};
 
 const SENTENCES: [&str; 10] = [
     "spacing",
@@ -30,7 +30,8 @@ const REASONS: [&str; 5] = ["waited", "first", "changed", "differs", "period"];
 /// One answer in so many is changed, in a list in which any are.
 const CHANGED: u32 = 40;
 
-/// How often each sentence was found to fail, and each reason of a report to hold.
+/// How often each sentence was found to fail, and at how many ticks each reason of a report held, and held alone
+/// once MinRepTime had passed.
 #[derive(Default)]
 pub struct AuditCover {
     found: [u64; 10],
@@ -40,12 +41,13 @@ pub struct AuditCover {
 }
 
 impl AuditCover {
-    fn count(&mut self, findings: Findings, outlook: &Outlook) {
+    /// What was found at a record, and what a tick went by.
+    fn count(&mut self, findings: Findings, outlook: Option<&Outlook>) {
         for (count, found) in self.found.iter_mut().zip(in_order(findings)) {
             *count += u64::from(found);
         }
         self.clean += u64::from(findings.none());
-        let Outlook { waited, first, changed, differs, period, .. } = *outlook;
+        let Some(Outlook { waited, first, changed, differs, period, .. }) = outlook.copied() else { return };
         for (count, holds) in self.reasons.iter_mut().zip([waited, first, changed, differs, period]) {
             *count += u64::from(holds);
         }
@@ -119,58 +121,85 @@ pub fn audits(seed: u64, events: u64, cover: &mut AuditCover) -> Result<u64, Fin
     Ok(done)
 }
 
-/// An audit beside the checker.
+/// An audit beside the checker and the second implementation.
 struct Recording {
     audit: Audit,
     checker: Checker,
+    /// The second implementation's drive, its reports being those that were heard.
+    drive: Drive,
+    /// The position that was last shown.
+    seen: u8,
 }
 
 impl Recording {
     fn fresh() -> Recording {
-        Recording { audit: Audit::fresh(), checker: Checker::from_fresh() }
+        let drive = Model.fresh();
+        let seen = drive.position;
+        Recording { audit: Audit::fresh(), checker: Checker::from_fresh(), drive, seen }
     }
 
     /// Whether the list may go on, or what differs.
     fn hear(&mut self, bytes: &Bytes, answer: Answer, cover: &mut AuditCover) -> Result<bool, String> {
         let bytes = bytes.as_slice();
-        let (before, seen) = (*self.audit.drive(), self.audit.seen());
-        let outlook = looks_ahead(&before)?;
-        let findings = self.audit.hear(bytes, answer.said());
-        cover.count(findings, &outlook);
+        let outlook = looks_ahead(&self.drive)?;
+        let found = self.audit.hear(bytes, answer.said());
         let shown = match answer {
             Answer::Position { position, .. } | Answer::Tick { position, .. } => position,
-            _ => seen,
+            _ => self.seen,
         };
         let breach = self.checker.event(bytes, &answer, shown);
-        let expected = by_both(breach, &before, seen, bytes, answer, shown);
-        if findings.otherreport && expected.otherreport {
-            return Ok(false);
+        let (due, after) = Model.step(&self.drive, bytes);
+        let mut expected = self.by_both(breach, due, answer, shown);
+        let is_tick = matches!(due, Answer::Tick { .. });
+        cover.count(found, is_tick.then_some(&outlook));
+        let surplus = found.otherreport && expected.otherreport;
+        if surplus {
+            // The checker asks neither of a report without a tick.
+            (expected.spacing, expected.content) = (found.spacing, found.content);
         }
-        if findings != expected {
-            return Err(format!("found {findings:?}, expected {expected:?}"));
+        if found != expected {
+            return Err(format!("found {found:?}, expected {expected:?}"));
         }
-        Ok(true)
+        self.drive = with_reports(&self.drive, after, due, bytes, answer);
+        self.seen = shown;
+        if (self.audit.drive(), self.audit.seen()) != (&self.drive, self.seen) {
+            return Err(format!("the audit keeps {:?}, expected {:?}", self.audit, self.drive));
+        }
+        Ok(!surplus)
+    }
+
+    /// What the checker finds, and for what it does not look at the second implementation.
+    fn by_both(&self, b: Breach, due: Answer, answer: Answer, shown: u8) -> Findings {
+        let is_tick = matches!(due, Answer::Tick { .. });
+        let from_seen = Drive { position: self.seen, ..self.drive };
+        let there = Model.step(&from_seen, TICK.as_slice()).1.position;
+        Findings {
+            spacing: b.has(Clause::Spacing),
+            waiting: b.has(Clause::Waiting),
+            moving: is_tick && shown != there,
+            position: b.has(Clause::Move),
+            content: b.has(Clause::Content),
+            othermove: b.has(Clause::OtherMoves),
+            otherreport: b.has(Clause::OtherReports),
+            due: is_tick && reports(due) != reports(answer),
+            refusal: b.has(Clause::Refusal),
+            answer: due != answer,
+        }
     }
 }
 
-/// What the checker finds, and for what it does not look at the second implementation, given the drive that the
-/// list makes with the reports so far.
-fn by_both(b: Breach, before: &Drive, seen: u8, bytes: &[u8], answer: Answer, shown: u8) -> Findings {
-    let expected = Model.step(before, bytes).0;
-    let is_tick = matches!(expected, Answer::Tick { .. });
-    let there = Model.step(&Drive { position: seen, ..*before }, TICK.as_slice()).1.position;
-    Findings {
-        spacing: b.has(Clause::Spacing),
-        waiting: b.has(Clause::Waiting),
-        moving: is_tick && shown != there,
-        position: b.has(Clause::Move),
-        content: b.has(Clause::Content),
-        othermove: b.has(Clause::OtherMoves),
-        otherreport: b.has(Clause::OtherReports),
-        due: is_tick && reports(expected) != reports(answer),
-        refusal: b.has(Clause::Refusal),
-        answer: expected != answer,
-    }
+/// The drive after an event, its last report and since being those of the reports that were heard.
+fn with_reports(before: &Drive, after: Drive, due: Answer, bytes: &[u8], answer: Answer) -> Drive {
+    let is_tick = matches!(due, Answer::Tick { .. });
+    let is_restart = due == Answer::Done && bytes[2] == 9;
+    let (since, last) = match answer {
+        _ if is_restart => (after.since, after.last),
+        Answer::Tick { position, report: Some(Status(status)), .. } => {
+            (0, Last { reported: 1, position, status })
+        }
+        _ => (before.since.saturating_add(is_tick.into()), before.last),
+    };
+    Drive { since, last, ..after }
 }
 
 const TICK: Bytes = Bytes::event(1, 0, 0, 0);

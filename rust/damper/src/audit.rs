@@ -78,7 +78,7 @@ impl fmt::Display for Said {
     }
 }
 
-/// The sentences that do not hold at an event record: those of demand 3, then two of demand 2.
+/// The sentences that do not hold at an event record: those of demand 3's claim and, last, of demand 2.
 #[repr(C)]
 #[derive(Clone, Copy, PartialEq, Eq, Hash, Debug, Default)]
 pub struct Findings {
@@ -108,7 +108,10 @@ pub struct Findings {
 }
 
 /// A drive's answers, ours or another maker's, held against the list of event records it was given, fresh at
-/// first. Each finding is true exactly where its sentence does not hold, proved for every list and all answers.
+/// first. What a tick leaves is what the list makes; what is due goes by the reports that the drive sent.
+///
+/// It is proved, for every list and all answers, that each finding but [`Findings::answer`] is true exactly where
+/// its sentence does not hold; and that where that one is never found, each answer was that of [`Drive::step`].
 ///
 /// ```
 /// use damper::{Audit, Event, Said};
@@ -157,7 +160,7 @@ impl Audit {
         self.0.seen
     }
 
-    /// Ticks since the latest report, past restarts; None where there was none, or none among the last 65,534.
+    /// Ticks since the latest report, past restarts; None where there was none, or none among the last 65,535.
     pub fn apart(&self) -> Option<u16> {
         Some(self.0.apart).filter(|apart| *apart < u16::MAX)
     }

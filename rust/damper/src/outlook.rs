@@ -14,7 +14,7 @@ pub struct Outlook {
     pub position: u8,
     /// The status that the tick leaves.
     pub status: Status,
-    /// MinRepTime has passed since the last report or restart.
+    /// MinRepTime has passed, by [`Drive::since`] with this tick.
     pub waited: bool,
     /// There is no report yet, or none since the last restart.
     pub first: bool,
@@ -22,12 +22,13 @@ pub struct Outlook {
     pub changed: bool,
     /// The status differs from the last reported one.
     pub differs: bool,
-    /// RepPer has passed since the last report or restart.
+    /// RepPer has passed, by [`Drive::since`] with this tick.
     pub period: bool,
 }
 
 impl Outlook {
-    /// Whether the tick reports: once MinRepTime has passed, for one of the four reasons.
+    /// Whether the tick reports: once MinRepTime has passed, for one of the four reasons. That these decide it is
+    /// proved.
     pub const fn reports(&self) -> bool {
         self.waited && (self.first || self.changed || self.differs || self.period)
     }

@@ -47,12 +47,13 @@ from 1 on), the sentence's name and what is wrong:
     otherreport  No other event sends a spontaneous report.
     due          A tick reports if MinRepTime has passed and there was no report yet, or the
                  position differs by ActPosCOV or more, or the status differs, or RepPer has passed;
-                 and only then. Told where neither waiting nor spacing fails at the same record,
-                 which would say it already.
+                 and only then.
     refusal      An event is carried out, or refused by the first fitting number.
     answer       The line is the one of document 01's drive, had it sent the reports so far: rank,
-                 motor, percent, a value that is read. Told where no other sentence fails at the
-                 same record.
+                 motor, percent and a value that is read, too.
+
+The position and the status that a tick leaves are those that the list makes, also where the line
+shows others. A line that shows no position leaves the damper where it was last shown.
 
 A sentence that fails at records in a row is one line, `records 9 to 300`, with what is wrong at the
 first of them. Records at which it has nothing to say do not part the row: other events, for the
@@ -139,7 +140,7 @@ impl Auditor {
         if !findings.none() {
             self.at += 1;
             for sentence in Sentence::ALL {
-                self.failed[sentence as usize] |= sentence.fails(&findings) && !sentence.echoes(&findings);
+                self.failed[sentence as usize] |= sentence.fails(&findings);
             }
         }
         self.restarted |= answer == Answer::Done && Event::read(bytes) == Ok(Event::Restart);

@@ -125,12 +125,12 @@ fn nothing_in_our_own() {
     }
 }
 
-/// Each record at which something fails lies in a line, each line has as many as it says, and the lines come in
-/// the order of their first records.
+/// Each sentence lies in a line at each record at which it fails, each line has as many as it says, and the lines
+/// come in the order of their first records.
 fn covered(findings: &[Findings], text: &str) {
     let mut lines: Vec<_> = text.lines().collect();
     let count = lines.pop().unwrap();
-    let mut told = vec![false; findings.len() + 1];
+    let mut told = vec![[false; Sentence::ALL.len()]; findings.len()];
     let mut latest = 0;
     for line in lines {
         let (place, rest) = line.split_once(", ").unwrap();
@@ -146,19 +146,15 @@ fn covered(findings: &[Findings], text: &str) {
         latest = first;
         let name = rest.split(": ").nth(1).unwrap();
         let sentence = Sentence::ALL.into_iter().find(|sentence| sentence.name() == name).unwrap();
-        let fails = |at: &usize| {
-            let findings = &findings[at - 1];
-            sentence.fails(findings) && !sentence.echoes(findings)
-        };
-        let failing: Vec<_> = (first..=last).filter(fails).collect();
+        let failing: Vec<_> = (first..=last).filter(|at| sentence.fails(&findings[at - 1])).collect();
         assert_eq!((failing.len(), failing[0], failing[failing.len() - 1]), (times, first, last), "{line}");
-        failing.into_iter().for_each(|at| told[at] = true);
+        failing.into_iter().for_each(|at| told[at - 1][sentence as usize] = true);
     }
-    for (findings, told) in findings.iter().zip(&told[1..]) {
-        assert_eq!(*told, !findings.none());
+    for (findings, told) in findings.iter().zip(&told) {
+        assert_eq!(*told, Sentence::ALL.map(|sentence| sentence.fails(findings)));
     }
-    let at = told.iter().filter(|told| **told).count();
-    assert_eq!(at == 0, count.ends_with(": every sentence holds"), "{count}");
+    let none = findings.iter().all(Findings::none);
+    assert_eq!(none, count.ends_with(": every sentence holds"), "{count}");
 }
 
 /// The clauses of the unproved checker that a recording shows.
@@ -230,7 +226,7 @@ fn every_wrong_drive() {
             as_the_checkers(&answers, &findings);
             found |= !findings.iter().all(Findings::none);
             for sentence in Sentence::ALL {
-                met[sentence as usize] |= findings.iter().any(|f| sentence.fails(f) && !sentence.echoes(f));
+                met[sentence as usize] |= findings.iter().any(|f| sentence.fails(f));
             }
         }
         assert_eq!(found, !unshown, "{name}");
@@ -333,7 +329,7 @@ fn findings_before_an_error() {
     let lines = "1 ok\n2 no 3\n3 ok\nfour\n";
     let (text, found, end) = audited(&records, lines.as_bytes());
     assert!(found && matches!(end, Err(Failure::Text { line: 4, column: 1, .. })));
-    assert!(text.starts_with("record 2, before tick 1: refusal: ") && text.lines().count() == 1, "{text}");
+    assert!(text.starts_with("record 2, before tick 1: refusal: ") && text.lines().count() == 2, "{text}");
 }
 
 #[test]

@@ -62,18 +62,6 @@ impl Sentence {
             Sentence::Answer => findings.answer,
         }
     }
-
-    /// Whether another sentence that fails says it already: `answer` is told where nothing else is, `due`
-    /// where neither `waiting` nor `spacing` is.
-    pub fn echoes(self, findings: &Findings) -> bool {
-        match self {
-            Sentence::Due => findings.due && (findings.waiting || findings.spacing),
-            Sentence::Answer => {
-                findings.answer && *findings != Findings { answer: true, ..Findings::default() }
-            }
-            _ => false,
-        }
-    }
 }
 
 /// What a drive said to an event record, and what document 01's drive makes of it.
@@ -142,7 +130,7 @@ impl Heard {
                 self.min_rep_time()
             ),
             Sentence::Waiting => format!(
-                "MinRepTime, {}, passes without report or restart and leaves {}, although {}",
+                "MinRepTime, {}, passes without report or restart, and by the list leaves {}, although {}",
                 many(self.min_rep_time(), "tick"),
                 self.left(),
                 joined(&differences(self.audit.drive(), &self.outlook(), self.restarted))
@@ -156,11 +144,11 @@ impl Heard {
             Sentence::Content => {
                 let said = self.report().map_or(0, |(_, status)| status);
                 let said = format!("position {}, status {}", self.position(), status(Status(said)));
-                format!("the report gives {said}, and there are {}", self.left())
+                format!("the report gives {said}, and by the list there are {}", self.left())
             }
             Sentence::OtherMove => {
                 let (from, to) = (place(self.audit.seen()), place(self.position()));
-                format!("without a tick the damper goes from {from} to {to}")
+                format!("without a tick the damper, last shown at {from}, is shown at {to}")
             }
             Sentence::OtherReport => format!("without a tick there is a report, `{}`", self.said),
             Sentence::Due => self.due(),
@@ -190,7 +178,10 @@ impl Heard {
         let (drive, outlook) = (self.audit.drive(), self.outlook());
         if !self.is_report() {
             let reasons = joined(&reasons(drive, &outlook, self.restarted));
-            return format!("a report of {} is due, because {reasons}, and none comes", self.left());
+            return format!(
+                "by the list a report of {} is due, because {reasons}, and none comes",
+                self.left()
+            );
         }
         let none = match outlook.waited {
             true => unchanged(drive, &outlook, self.drive.since),

@@ -59,9 +59,6 @@ impl Stretches {
     /// What was found at a record.
     pub fn hear(&mut self, record: u64, heard: &Heard) {
         for sentence in Sentence::ALL {
-            if sentence.echoes(&heard.findings) {
-                continue;
-            }
             if sentence.fails(&heard.findings) {
                 self.fails(sentence, record, heard);
             } else if heard.judged(sentence) {
