@@ -68,11 +68,11 @@ impl fmt::Display for Refusal {
     fn fmt(&self, f: &mut fmt::Formatter) -> fmt::Result {
         f.write_str(match self {
             Refusal::Record => "the drive record is not well formed",
-            Refusal::Length => "the event record has not six bytes",
-            Refusal::Mark => "the event record has another mark",
+            Refusal::Length => "the event record does not have six bytes",
+            Refusal::Mark => "the first two bytes are not 5A C3",
             Refusal::Kind => "the kind is not 1 to 11",
             Refusal::Unused => "an unused byte is not 0",
-            Refusal::Value => "a value is not one of its kind's",
+            Refusal::Value => "byte a is none of the kind's values",
             Refusal::Command => "the command exceeds 2",
             Refusal::Percent => "the percent exceeds 100",
             Refusal::Property => "the property is not DamperMode's",

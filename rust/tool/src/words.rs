@@ -23,7 +23,7 @@ RECORDS, or for -, they are read from standard input; without -o FILE, or for
     tick 600
     set 50 % in mode 2              # refused by 9: the property is not DamperMode's
     raw 5AC306010000                # calibrate, with a = 1
-    raw 5AC3                        # refused by 2: the event record has not six bytes
+    raw 5AC3                        # refused by 2: the event record does not have six bytes
 
 Bytes that no other words make are `raw`. Behind `#` stands why a fresh drive
 that is given the records refuses this one, or what a `raw` one is to it.

@@ -205,7 +205,7 @@ fn no_progress_among_the_words() {
         return;
     }
     let seen = shell(&format!("script -qec '{SLOW}' /dev/null")).stdout;
-    let line = "raw 313233343536                # refused by 3: the event record has another mark\r\n";
+    let line = "raw 313233343536                # refused by 3: the first two bytes are not 5A C3\r\n";
     assert_eq!(text(&seen).replace("\rdamper: 0 KiB\r\x1b[K", ""), line.repeat(2));
 }
 

@@ -53,7 +53,7 @@ fn from_and_to_files() {
     let output = damper(&["words", records, "-o", words], b"");
     assert_eq!((output.status.code(), output.stdout.as_slice()), (Some(0), &b""[..]));
     let expected = "setpoint 7\n\
-                    raw 5A                          # refused by 2: the event record has not six bytes\n";
+                    raw 5A                          # refused by 2: the event record does not have six bytes\n";
     assert_eq!(fs::read_to_string(words).unwrap(), expected);
 
     // An input that cannot be read leaves the output as it was.
