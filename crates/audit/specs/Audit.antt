@@ -4,20 +4,18 @@ use mathlib.Core.Bool.{Bool, true, false, not, _&&_, _||_}
 use mathlib.Core.List.{List}
 use Prim.Native.Nat.{ℕ}
 use lib.Dec.{ltb, leb, eqb}
-use Rattle.numbers.specs.Numbers.{pick, on, next}
-use Rattle.table.specs.Table.{actPosCov, minRepTime}
+use Rattle.numbers.specs.Numbers.{pick, next}
+use Rattle.table.specs.Table.{minRepTime}
 use Rattle.event.specs.Kinds as Kind
-use Rattle.event.specs.Event.{eventIn, recordRefusal}
-use Rattle.rules.specs.Report.{changed}
+use Rattle.event.specs.Event.{kindIn}
 use Rattle.answer.specs.declared.Answer.{Answer}
 use Rattle.answer.specs.declared.Answer.the-variants.{No, Done, Par, At, Tick, Report}
 use Rattle.answer.specs.Answer.{wordOf, codeOf}
 use Rattle.damper.specs.declared.Drive.{Drive}
-use Rattle.damper.specs.declared.Last.{Last}
 use Rattle.damper.specs.declared.Outcome.{Outcome}
 use Rattle.damper.specs.Record.{last, freshDrive, withPosition, withHeard}
 use Rattle.damper.specs.WellFormed.{wellFormed}
-use Rattle.damper.specs.Tick.{advance, statusOf}
+use Rattle.damper.specs.Tick.{advance, statusOf, differsFrom}
 use Rattle.damper.specs.Step.{stepOf}
 use Rattle.audit.specs.declared.Audit.{Audit}
 use Rattle.audit.specs.declared.Findings.{Findings}
@@ -32,10 +30,6 @@ audit d p n = record { drive = d; seen = p; apart = n }
 -- of a drive that is fresh: no report was heard yet, so none is too near
 abbrev pub freshAudit : Audit
 freshAudit = audit freshDrive 0 65535
-
--- the kind of a record that 2 to 8 do not refuse, and 0 of any other
-abbrev pub kindIn : List ℕ → ℕ
-kindIn s = pick (eqb (recordRefusal s) 0) (eventIn s .kind) 0
 
 -- the number of a refusal, the position shown, whether it is a report, and of which status
 abbrev pub said : ℕ → ℕ → Bool → ℕ → Said
@@ -74,11 +68,6 @@ metBy a s =
 abbrev pub counted : Met → ℕ → ℕ
 counted m n = pick (m .tick) (next n) n
 
--- "no report yet; 100 × the distance from the last reported position is at least 255 × ActPosCOV; status differs"
-abbrev pub differsFrom : Drive → Last → Bool
-differsFrom d l =
-    (not (on (l .reported)) || changed (actPosCov (d .params)) (d .position) (l .position)) || not (eqb (statusOf d) (l .status))
-
 -- which sentences fail
 unfoldable pub findingsOf : Audit → Met → Said → ℕ → ℕ → Findings
 findingsOf a m x word code =
@@ -86,7 +75,7 @@ findingsOf a m x word code =
     let time = minRepTime (d .params) in
     record {
       spacing = x .reports && ltb (counted m (a .apart)) time;
-      waiting = ((m .tick && not (x .reports)) && leb time (counted m (a .drive .since))) && differsFrom d (a .drive .last);
+      waiting = ((m .tick && not (x .reports)) && leb time (counted m (a .drive .since))) && differsFrom d (statusOf d) (a .drive .last);
       moving = m .tick && not (eqb (x .position) (m .moved));
       position = not (eqb (x .position) (d .position));
       content = x .reports && not (eqb (x .position) (d .position) && eqb (x .status) (statusOf d));

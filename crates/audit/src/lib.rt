@@ -4,10 +4,11 @@ ghost use mathlib.Core.Path.{_≡_};
 ghost use mathlib.Core.Bool.{true};
 ghost use Rattle.numbers.specs.Numbers.{pick, next};
 ghost use Rattle.damper.specs.WellFormed.{wellFormed};
-ghost use Rattle.audit.specs.Audit.{kindIn, saidIn, freshAudit, metBy, findingsOf, followed, auditOf};
+ghost use Rattle.audit.specs.Audit.{saidIn, freshAudit, metBy, findingsOf, followed, auditOf};
 use answer::Answer;
 use damper::Drive;
 use damper::Last;
+use damper::NO_REPORT;
 use numbers::next16;
 use numbers::pick16;
 
@@ -80,23 +81,6 @@ const NOTHING: Findings = Findings {
     refusal: false,
     answer: false,
 };
-
-const NO_REPORT: Last = Last {
-    reported: 0,
-    position: 0,
-    status: 0,
-};
-
-// The kind of a record that the reader accepts, 0 of any other.
-fn kind_in(s: &[u8]) -> u8
-    ensures { λ r. ⌜ r ≡ kindIn (now (s .entry)) ⌝ }
-{
-    if event::refusal(s) != 0 {
-        return 0;
-    }
-    let e = event::event_in(s);
-    e.kind
-}
 
 fn said_in(before: u8, answer: Answer) -> Said
     ensures { λ r. ⌜ r ≡ saidIn before answer ⌝ }
@@ -188,7 +172,7 @@ impl Audit {
         let next = o.drive;
         let answer = o.answer;
         let said = said_in(0, answer);
-        let kind = kind_in(s);
+        let kind = event::kind_in(s);
         let a = d.with_position(self.seen).advance();
         let there = a.drive;
         Met {

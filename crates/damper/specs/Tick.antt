@@ -9,6 +9,7 @@ use Rattle.motion.specs.Motion.{toward, motor}
 use Rattle.rules.specs.Rank.{Source, sourceAt, busActive, activeByte, rulingRank, targets}
 use Rattle.rules.specs.Report.{status, changed}
 use Rattle.damper.specs.declared.Run.{Run}
+use Rattle.damper.specs.declared.Last.{Last}
 use Rattle.damper.specs.declared.Drive.{Drive}
 use Rattle.damper.specs.declared.Advanced.{Advanced}
 use Rattle.damper.specs.Record.{run, withCounts, withPosition, withRun, withReport}
@@ -53,13 +54,16 @@ advance d =
 abbrev pub statusOf : Drive → ℕ
 statusOf d = status (d .commands) (d .run .kind) (busOn d)
 
--- step 4, with the status after steps 1 to 3: "if since is at least MinRepTime and one of these holds: no report yet; 100 × the
--- distance from the last reported position is at least 255 × ActPosCOV; status differs; since is at least RepPer"
+-- "no report yet; 100 × the distance from the last reported position is at least 255 × ActPosCOV; status differs": the record and its
+-- status `s` against the last report `l`
+abbrev pub differsFrom : Drive → ℕ → Last → Bool
+differsFrom d s l =
+    (not (on (l .reported)) || changed (actPosCov (d .params)) (d .position) (l .position)) || not (eqb s (l .status))
+
+-- step 4, with the status after steps 1 to 3: "if since is at least MinRepTime and one of these holds: ..; since is at least RepPer"
 unfoldable pub dueWith : Drive → ℕ → Bool
 dueWith d s =
-    leb (minRepTime (d .params)) (d .since)
-    && (((not (on (d .last .reported)) || changed (actPosCov (d .params)) (d .position) (d .last .position)) || not (eqb s (d .last .status)))
-    || leb (repPer (d .params)) (d .since))
+    leb (minRepTime (d .params)) (d .since) && (differsFrom d s (d .last) || leb (repPer (d .params)) (d .since))
 
 abbrev pub due : Drive → Bool
 due d = dueWith d (statusOf d)

@@ -34,7 +34,7 @@ const NO_RUN: Run = Run {
     left: 0,
 };
 
-const NO_REPORT: Last = Last {
+pub const NO_REPORT: Last = Last {
     reported: 0,
     position: 0,
     status: 0,

@@ -128,6 +128,10 @@ recordRefusal s = pick (not (eqb (length s) 6)) 2 (pick (badMark s) 3 (dataRefus
 unfoldable pub readOf : List ℕ → Decoded
 readOf s = pick (eqb (recordRefusal s) 0) (Accepted (eventIn s)) (Refused (recordRefusal s))
 
+-- the kind of a record that the reader accepts, 0 of any other bytes
+abbrev pub kindIn : List ℕ → ℕ
+kindIn s = pick (eqb (recordRefusal s) 0) (eventIn s .kind) 0
+
 -- "The writer takes those four, a byte each, checks 2 and 4 to 8 .. and answers 0"; 2 "for the writer: the lent buffer has fewer than six"
 unfoldable pub writeRefusal : List ℕ → Event → ℕ
 writeRefusal s e = pick (ltb (length s) 6) 2 (dataRefusal e)

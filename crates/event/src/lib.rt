@@ -1,7 +1,7 @@
 // The event record: six bytes, the mark, the kind and the data bytes a, b, c.
 ghost use mathlib.Core.Path.{_≡_};
 ghost use lib.ListN.{length};
-ghost use Rattle.event.specs.Event.{event, eventIn, dataRefusal, recordRefusal, readOf, writeRefusal, writtenTo, valueOf};
+ghost use Rattle.event.specs.Event.{event, eventIn, dataRefusal, recordRefusal, readOf, kindIn, writeRefusal, writtenTo, valueOf};
 use numbers::pick8;
 
 // How many bytes a record has.
@@ -116,6 +116,17 @@ pub fn read(s: &[u8]) -> Decoded
     } else {
         Decoded::Refused(n)
     }
+}
+
+// The kind of a record that the reader accepts, 0 of any other bytes.
+pub fn kind_in(s: &[u8]) -> u8
+    ensures { λ r. ⌜ r ≡ kindIn (now (s .entry)) ⌝ }
+{
+    if refusal(s) != 0 {
+        return 0;
+    }
+    let e = event_in(s);
+    e.kind
 }
 
 // Writes the six bytes of an event to the front of buf and answers 0, or answers the first of the refusals 2 and 4 to 8

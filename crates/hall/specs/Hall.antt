@@ -9,10 +9,8 @@ use Rattle.numbers.specs.Numbers.{pick}
 use Rattle.numbers.specs.Places.{tabulate}
 use Rattle.answer.specs.declared.Answer.{Answer}
 use Rattle.answer.specs.Answer.{numberOf, valuesOf, isReport}
-use Rattle.event.specs.declared.Decoded.{Decoded}
-use Rattle.event.specs.declared.Decoded.the-variants.{Accepted, Refused}
 use Rattle.event.specs.Kinds as Kind
-use Rattle.event.specs.Event.{event, bytesOf, readOf}
+use Rattle.event.specs.Event.{event, bytesOf, kindIn}
 use Rattle.damper.specs.declared.Drive.{Drive}
 use Rattle.damper.specs.declared.Outcome.{Outcome}
 use Rattle.damper.specs.Record.{freshDrive}
@@ -35,12 +33,8 @@ badNumber n [] = false
 badNumber n (i ∷ list) = leb n i || badNumber n list
 
 -- 16: "when the bytes are a tick that the reader accepts, the list has over 64 entries, or the answer row is shorter than the list"
-abbrev pub readAsTick : Decoded → Bool
-readAsTick (Accepted e) = eqb (e .kind) Kind.tick
-readAsTick (Refused n) = false
-
 abbrev pub isTick : List ℕ → Bool
-isTick s = readAsTick (readOf s)
+isTick s = eqb (kindIn s) Kind.tick
 
 abbrev pub badEvent : List ℕ → List ℕ → ℕ → Bool
 badEvent list s room = (isTick s || ltb 64 (length list)) || ltb room (length list)

@@ -6,7 +6,6 @@ ghost use lib.Dec.{eqb};
 ghost use lib.ListN.{length, getD};
 ghost use Rattle.numbers.specs.Numbers.{pick};
 ghost use Rattle.hall.specs.Hall.{give, badRow, badNumber, isTick, namesTwice, tickRefusal, refusalTo16, callRefusal};
-use event::Decoded;
 use numbers::flag;
 use numbers::pick8;
 use numbers::with_flag;
@@ -49,10 +48,7 @@ fn bad_number(drives: usize, list: &[u32]) -> bool
 fn is_tick(s: &[u8]) -> bool
     ensures { λ r. ⌜ r ≡ isTick (now (s .entry)) ⌝ }
 {
-    match event::read(s) {
-        Decoded::Accepted(e) => e.kind == event::TICK,
-        Decoded::Refused(_) => false,
-    }
+    event::kind_in(s) == event::TICK
 }
 
 // Whether the list names a drive twice, in one pass: flag i says that number i has been met.

@@ -16,7 +16,7 @@ use Rattle.event.specs.declared.Event.{Event}
 use Rattle.event.specs.Event.{eventIn, badMark, badKind, unusedSet, badA, badCommand, badPercent, dataRefusal, recordRefusal}
 use Rattle.event.specs.Laws.{admitted, record-passed}
 use Rattle.motion.specs.Laws.{move-distance, move-left}
-use Rattle.rules.specs.Report.{changed, Sent, silent, sent, reportDue}
+use Rattle.rules.specs.Report.{Sent, silent, sent, differs, reportDue}
 use Rattle.rules.specs.Refusal.{wrongProperty, outsideTable, lowAboveHigh, rateInRun, runForbidden, stateRefusal, refusal}
 use Rattle.rules.specs.RefusalLaws.{refusal-passed}
 use Rattle.answer.specs.declared.Answer.the-variants.{No}
@@ -27,7 +27,7 @@ use Rattle.damper.specs.declared.Outcome.{Outcome}
 use Rattle.answer.specs.Answer.{isReport}
 use Rattle.damper.specs.Record.{last, withWait}
 use Rattle.damper.specs.WellFormed.{wellFormed}
-use Rattle.damper.specs.Tick.{advance, due, dueWith, statusOf}
+use Rattle.damper.specs.Tick.{advance, due, differsFrom, dueWith, statusOf}
 use Rattle.damper.specs.Step.{outcome, tickWith, ticked, applied, judgedBy}
 use Rattle.invariant.specs.Effects as F
 use Rattle.invariant.specs.Kept as K
@@ -61,11 +61,16 @@ pub record Facts (d : Drive) (t : C.Trace) (s : List ℕ) (o : Outcome) : Type 0
   pub refusal : C.Refusal (momentOf s o) t
   pub formed : C.Formed (momentOf s o) t
 
--- MinRepTime, as the list has it, is at least 1
+-- MinRepTime, as a list has it with which a well-formed record agrees, is from 1 to 3,600
+pub time-range : (d : Drive) (h : List Event) → wellFormed d ≡ true → Agrees d h
+    → (1 ≤ minRepTime (R.parameters h)) × (minRepTime (R.parameters h) ≤ 3600)
+time-range d h w a =
+    let in-range : allIn rows (R.parameters h) ≡ true = rw (a .params) at (K.parts d w .params) in
+    bounds (rowAt rows 3) _ (range-at rows _ 3 in-range (omega arith))
+
+-- so it is at least 1 after a trace
 pub good-time : (d : Drive) (t : C.Trace) → Good d t → 1 ≤ minRepTime (R.parameters (C.accepted t))
-good-time d t g =
-    let in-range : allIn rows (R.parameters (C.accepted t)) ≡ true = rw (g .agrees .params) at (K.parts d (g .wf) .params) in
-    bounds (rowAt rows 3) _ (range-at rows _ 3 in-range (omega arith)) .0
+good-time d t g = time-range d (C.accepted t) (g .wf) (g .agrees) .0
 
 -- the list's own judgement is that of the record
 pub judged : (d : Drive) (t : C.Trace) (s : List ℕ) → Good d t → judgedBy d s ≡ R.judgement (C.accepted t) s
@@ -141,13 +146,14 @@ unfolding tickWith
 tick-agrees true a h g = record { params = g .params; commands = g .commands; age = g .age; run = g .run }
 tick-agrees false a h g = g
 
--- step 4 by the record's last report, and by what that says
-due-law : (q : List ℕ) (n p s : ℕ) (l : Last)
-    → leb (minRepTime q) n
-    && (((not (on (l .reported)) || changed (actPosCov q) p (l .position)) || not (eqb s (l .status))) || leb (repPer q) n)
-    ≡ reportDue q n p s (lastOf l)
-unfolding reportDue
-due-law q n p s l = cases (on (l .reported)) (λ e. rw e) (λ e. rw e)
+-- what differs from a last report as a record holds it, and from what that says
+pub differs-law : (d : Drive) (s : ℕ) (l : Last) → differsFrom d s l ≡ differs (actPosCov (d .params)) (d .position) s (lastOf l)
+differs-law d s l = cases (on (l .reported)) (λ e. rw e) (λ e. rw e)
+
+-- so step 4 by the record's last report is step 4 by what that says
+due-law : (d : Drive) (s : ℕ) → dueWith d s ≡ reportDue (d .params) (d .since) (d .position) s (lastOf (d .last))
+unfolding dueWith reportDue
+due-law d s = rw (differs-law d s (d .last))
 
 -- a limit below the cap is reached by a capped count where the count reaches it
 capped-least : (n t : ℕ) → t < 65535 → leb t (min n 65535) ≡ leb t n
@@ -214,9 +220,8 @@ module _ (d : Drive) (t : C.Trace) (s : List ℕ) (g : Good d t) (j : R.judgemen
   -- step 4 of a tick, in the list's terms
   due-tick : e .kind ≡ 1
       → due (advance d .drive) ≡ reportDue (R.parameters (e ∷ h)) (C.since t + 1) (R.positionIn (e ∷ h)) (R.statusIn (e ∷ h)) (C.lastReport t)
-  unfolding dueWith
   due-tick k =
-      due-law (advance d .drive .params) (advance d .drive .since) (advance d .drive .position) (statusOf (advance d .drive)) (advance d .drive .last)
+      due-law (advance d .drive) (statusOf (advance d .drive))
       ∙ rw (status-tick k, position-tick k, F.advance-params d, F.advance-since d, F.advance-last d, g .since, g .last)
       (due-capped (d .params) (C.since t) _ _ _ (K.parts d (g .wf) .params) ∙ rw (params-tick k))
 

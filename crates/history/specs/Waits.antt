@@ -1,14 +1,14 @@
 -- On any trace, spacing follows from when a tick may report and from the silence of other events, waiting from when a tick must.
-use mathlib.Core.Path.{_≡_, refl, sym, ap, _∙_}
-use mathlib.Core.Bool.{true, false, not, _||_, false≢true}
+use mathlib.Core.Path.{_≡_, refl, sym, _∙_}
+use mathlib.Core.Bool.{true, false, false≢true}
 use mathlib.Core.List.{List, _∷_, _++_}
 use Prim.Native.Nat.{ℕ, _+_, _≤_}
 use native.Mathlib.Omega.{arith}
-use lib.Dec.{leb, eqb}
+use lib.Dec.{leb}
 use borrow.Author.Tests.{leb-true, le-leb, eqb-true}
 use Rattle.numbers.specs.Laws.{cases, and-left, or-left, or-right, not-false}
 use Rattle.numbers.specs.CountLaws.{report-apart, quiet-last}
-use Rattle.table.specs.Table.{minRepTime, actPosCov, repPer}
+use Rattle.table.specs.Table.{minRepTime, actPosCov}
 use Rattle.rules.specs.Report.{changed, Sent, silent, sent, differs, reportDue}
 use Rattle.answer.specs.declared.Answer.{Answer}
 use Rattle.answer.specs.declared.Answer.the-variants.{No, Done, Par, At, Tick, Report}
@@ -26,17 +26,18 @@ spacing m t only others between x old e r q =
     omega arith)
     (λ k. absurd (false≢true (sym (others k .1) ∙ q)))
 
+-- where nothing differs there is a last report, of that status and near that position
+pub same-sent : (cov p s : ℕ) (x : Sent) → differs cov p s x ≡ false → (r : ℕ) × (x ≡ sent r s) × (changed cov p r ≡ false)
+same-sent cov p s silent e = absurd (false≢true (sym e))
+same-sent cov p s (sent r v) e =
+    let same = eqb-true s v (not-false _ (or-right (changed cov p r) _ e)) in
+    (r, rw same, or-left (changed cov p r) _ e)
+
 -- what is not due though the time is up has a last report from which nothing differs
 undue : (q : List ℕ) (n p s : ℕ) (x : Sent) → minRepTime q ≤ n → reportDue q n p s x ≡ false
     → (r : ℕ) × (x ≡ sent r s) × (changed (actPosCov q) p r ≡ false)
 unfolding reportDue
-undue q n p s x l e = go x (rw (le-leb _ _ l) at e)
-  where
-    go : (y : Sent) → (differs (actPosCov q) p s y || leb (repPer q) n) ≡ false → (r : ℕ) × (y ≡ sent r s) × (changed (actPosCov q) p r ≡ false)
-    go silent f = absurd (false≢true (sym f))
-    go (sent r v) f =
-        let d = or-left (changed (actPosCov q) p r || not (eqb s v)) _ f in
-        (r, ap (sent r) (sym (eqb-true s v (not-false _ (or-right (changed (actPosCov q) p r) _ d)))), or-left (changed (actPosCov q) p r) _ d)
+undue q n p s x l e = same-sent _ p s x (or-left (differs (actPosCov q) p s x) _ (rw (le-leb _ _ l) at e))
 
 pub silent-in : (a : Answer) → isReport a ≡ false → C.reportIn a ≡ silent
 silent-in (No n) e = refl

@@ -1,6 +1,6 @@
 -- Document 01, 'One tick, in order' and 'Who commands', of a tick that finds the drive `d`: what rules it, what it leaves, and the
 -- conditions of step 4 one by one.
-use mathlib.Core.Bool.{Bool, false, not, _&&_}
+use mathlib.Core.Bool.{false, not, _&&_}
 use Prim.Native.Nat.{ℕ}
 use lib.Dec.{leb, eqb}
 use Rattle.numbers.specs.Numbers.{pick, on}

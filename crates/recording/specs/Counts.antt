@@ -16,7 +16,7 @@ apart tick report [] = 65535
 apart tick report (m ∷ t) = let n = apart tick report t in pick (report m t) 0 (pick (tick m t) (next n) n)
 
 -- a part of `t` that ends with a report, `n` ticks before the end of `t`
-pub record Reported {A : Type 0} (tick report : Test A) (t : List A) (n : ℕ) : Type 0 where
+record Reported {A : Type 0} (tick report : Test A) (t : List A) (n : ℕ) : Type 0 where
   pub between : List A
   pub member : A
   pub old : List A

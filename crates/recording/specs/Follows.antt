@@ -3,16 +3,15 @@
 use mathlib.Core.Path.{_≡_, refl, sym, _∙_}
 use mathlib.Core.Bool.{Bool, true, false, _&&_, _||_, false≢true}
 use mathlib.Core.List.{List, [], _∷_}
-use Prim.Native.Nat.{ℕ, _+_, _≤_, min}
+use Prim.Native.Nat.{ℕ, _+_, min}
 use native.Mathlib.Omega.{arith}
 use lib.Dec.{eqb}
 use borrow.Author.Tests.{eqb-true}
 use Rattle.numbers.specs.Numbers.{pick, next}
 use Rattle.numbers.specs.Laws.{cases, and-left, and-right}
 use Rattle.numbers.specs.Counts as Counts
-use Rattle.table.specs.Table.{rows, rowAt, allIn, minRepTime, rate}
-use Rattle.table.specs.Laws.{range-at, bounds}
-use Rattle.event.specs.Event.{eventIn, recordRefusal}
+use Rattle.table.specs.Table.{rate}
+use Rattle.event.specs.Event.{eventIn, recordRefusal, kindIn}
 use Rattle.event.specs.Laws.{record-passed}
 use Rattle.motion.specs.Motion.{toward}
 use Rattle.rules.specs.Report.{sent}
@@ -39,7 +38,7 @@ use Rattle.history.specs.Theorem.{facts, fresh-good, due-sends}
 use Rattle.audit.specs.declared.Audit.{Audit}
 use Rattle.audit.specs.declared.Met.{Met}
 use Rattle.audit.specs.declared.Said.{Said}
-use Rattle.audit.specs.Audit.{freshAudit, kindIn, saidIn, metBy, followed}
+use Rattle.audit.specs.Audit.{freshAudit, saidIn, metBy, followed}
 use Rattle.recording.specs.Recording.{Heard, shownIn, heardAs}
 use Rattle.recording.specs.Counts.{apart}
 use Rattle.recording.specs.Told.{apartIn}
@@ -219,13 +218,6 @@ unfolding lastFits
 last-fits true q p s l h = refl
 last-fits false true p s l h = refl
 last-fits false false p s l h = h
-
--- MinRepTime in force at a record is from 1 to 3,600
-pub time-range : (m : Met) (x : C.Moment) (t : C.Trace) → Meets m x t
-    → (1 ≤ minRepTime (C.inForce x t)) × (minRepTime (C.inForce x t) ≤ 3600)
-time-range m x t g =
-    let in-range : allIn rows (C.inForce x t) ≡ true = rw (g .agrees .params) at (K.parts _ (g .wf) .params) in
-    bounds (rowAt rows 3) _ (range-at rows _ 3 in-range (omega arith))
 
 module _ (a : Audit) (t : C.Trace) (f : Follows a t) (x : C.Moment) (m : Met) (g : Meets m x t) (y : Said) (z : Says y x) where
   -- the audit goes on following

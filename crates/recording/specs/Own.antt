@@ -18,7 +18,6 @@ use Rattle.answer.specs.Answer.{wordOf, codeOf}
 use Rattle.damper.specs.declared.Advanced.{Advanced}
 use Rattle.damper.specs.declared.Drive.{Drive}
 use Rattle.damper.specs.declared.Last.{Last}
-use Rattle.damper.specs.declared.Outcome.{Outcome}
 use Rattle.damper.specs.Record.{last, drive, freshDrive}
 use Rattle.damper.specs.WellFormed.{wellFormed, lastFits}
 use Rattle.damper.specs.Tick.{advance, due}
@@ -33,15 +32,9 @@ use Rattle.history.specs.Theorem.{facts, due-sends, holds, fresh-good}
 use Rattle.audit.specs.declared.Audit.{Audit}
 use Rattle.audit.specs.declared.Findings.{Findings}
 use Rattle.audit.specs.Audit.{freshAudit, metBy, findingsOf, nothing, followed, auditOf}
-use Rattle.recording.specs.Recording.{Heard, shownIn, heardAs, traceFrom, traceHeard, findingsFrom}
+use Rattle.recording.specs.Recording.{Heard, recordingOf, shownIn, heardAs, traceFrom, traceHeard, Clean, findingsFrom}
 use Rattle.recording.specs.Follows.{Follows, fresh-follows}
-use Rattle.recording.specs.Theorem.{Clean, told-next, follows-next, holds-clean}
-
--- the recording of a list of records and of what they gave
-unfoldable pub recordingOf : List (List ℕ) → List Outcome → List Heard
-recordingOf [] os = []
-recordingOf (s ∷ l) [] = []
-recordingOf (s ∷ l) (o ∷ os) = record { bytes = s; answer = o .answer } ∷ recordingOf l os
+use Rattle.recording.specs.Theorem.{told-next, follows-next, holds-clean}
 
 -- The position that an answer of the drive shows, or else the one before, is the drive's.
 tick-shown : (b : Bool) (a : Advanced) (p : ℕ) → shownIn p (tickWith b a .answer) ≡ tickWith b a .drive .position

@@ -3,10 +3,11 @@
 -- of the claim hold.
 use mathlib.Core.Path.{_≡_}
 use mathlib.Core.Bool.{Bool, true, false}
-use mathlib.Core.List.{List, [], _∷_}
+use mathlib.Core.List.{List, [], _∷_, map}
 use Prim.Native.Nat.{ℕ}
 use Rattle.answer.specs.declared.Answer.{Answer}
 use Rattle.answer.specs.declared.Answer.the-variants.{No, Done, Par, At, Tick, Report}
+use Rattle.damper.specs.declared.Outcome.{Outcome}
 use Rattle.history.specs.Readings.{isTick}
 use Rattle.history.specs.Claim.{Moment, Trace, acceptedAs, positionAfter, reports, Spacing, Waiting, Move, Position, Content, Due, Refusal}
 use Rattle.audit.specs.declared.Audit.{Audit}
@@ -17,6 +18,16 @@ use Rattle.audit.specs.Audit.{auditOf}
 pub record Heard : Type 0 where
   pub bytes : List ℕ
   pub answer : Answer
+
+-- the event records of a recording
+abbrev pub recordsIn : List Heard → List (List ℕ)
+recordsIn l = map (λ x. x .bytes) l
+
+-- the recording of a list of records and of what they gave
+unfoldable pub recordingOf : List (List ℕ) → List Outcome → List Heard
+recordingOf [] os = []
+recordingOf (s ∷ l) [] = []
+recordingOf (s ∷ l) (o ∷ os) = record { bytes = s; answer = o .answer } ∷ recordingOf l os
 
 -- the position after an answer, `p` being the one before: where a line shows no position, the damper is where it was last seen, so that a
 -- move there is found at the next line that shows one
@@ -46,8 +57,9 @@ abbrev pub Tells : Bool → Type 0 → Type 0
 Tells true S = S → ⊥
 Tells false S = S
 
--- what the findings at the record `m`, which came after the trace `t`, tell of the claim's sentences there; the two halves of "No other
--- event moves the damper or sends a spontaneous report" each have one
+-- what the findings at the record `m`, which came after the trace `t`, tell of the claim's sentences there. The two halves of "No other
+-- event moves the damper or sends a spontaneous report" each have one. `Formed` has none: it follows from `Refusal`. `answer` is no
+-- sentence of the claim: it is demand 2's, see Same.antt.
 pub record Told (m : Moment) (t : Trace) (f : Findings) : Type 0 where
   pub spacing : Tells (f .spacing) (Spacing m t)
   pub waiting : Tells (f .waiting) (Waiting m t)
@@ -66,7 +78,24 @@ ToldFrom t [] (f ∷ fs) = ⊥
 ToldFrom t (x ∷ l) [] = ⊥
 ToldFrom t (x ∷ l) (f ∷ fs) = Told (heardAs t x) t f × ToldFrom (heardAs t x ∷ t) l fs
 
+-- no sentence is found to fail; `answer` is no sentence
+pub record Clean (f : Findings) : Type 0 where
+  pub spacing : f .spacing ≡ false
+  pub waiting : f .waiting ≡ false
+  pub moving : f .moving ≡ false
+  pub position : f .position ≡ false
+  pub content : f .content ≡ false
+  pub othermove : f .othermove ≡ false
+  pub otherreport : f .otherreport ≡ false
+  pub due : f .due ≡ false
+  pub refusal : f .refusal ≡ false
+
 -- the audit carried over a recording: what it finds at each record
 unfoldable pub findingsFrom : Audit → List Heard → List Findings
 findingsFrom a [] = []
 findingsFrom a (x ∷ l) = let r = auditOf a (x .bytes) (x .answer) in r .findings ∷ findingsFrom (r .audit) l
+
+-- the audit after a recording
+unfoldable pub auditAfter : Audit → List Heard → Audit
+auditAfter a [] = a
+auditAfter a (x ∷ l) = auditAfter (auditOf a (x .bytes) (x .answer) .audit) l

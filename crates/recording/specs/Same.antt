@@ -1,7 +1,7 @@
 -- The finding `answer` decides demand 2 for a recording: one in which it is nowhere found is the proved drive's own.
 use mathlib.Core.Path.{_≡_, refl, sym, ap, _∙_}
 use mathlib.Core.Bool.{Bool, true, false}
-use mathlib.Core.List.{List, [], _∷_, map}
+use mathlib.Core.List.{List, [], _∷_}
 use Prim.Native.Nat.{ℕ, _<_, _≤_}
 use native.Mathlib.Omega.{arith}
 use lib.Dec.{ltb, eqb}
@@ -28,10 +28,10 @@ use Rattle.history.specs.Facts.{Good}
 use Rattle.history.specs.Theorem.{facts, fresh-good}
 use Rattle.audit.specs.declared.Audit.{Audit}
 use Rattle.audit.specs.Audit.{freshAudit, metBy, findingsOf, auditOf}
-use Rattle.recording.specs.Recording.{Heard, heardAs, findingsFrom}
+use Rattle.recording.specs.Recording.{Heard, recordsIn, recordingOf, heardAs, findingsFrom}
 use Rattle.recording.specs.Follows.{Follows, fresh-follows}
 use Rattle.recording.specs.Theorem.{follows-next}
-use Rattle.recording.specs.Own.{recordingOf, same-drive, wait-kept, own-heard}
+use Rattle.recording.specs.Own.{same-drive, wait-kept, own-heard}
 
 -- Each value of an answer behind its first is a byte; of a percent it is enough that it is at most its position. No bound of a position, of
 -- a parameter or of a refusal's number is asked: an answer with the same numbers gives it.
@@ -116,10 +116,6 @@ answer-same a x w h e =
     let v = eqb-true _ _ (and-left (eqb (wordOf (x .answer)) (wordOf y)) _ q) in
     let c = eqb-true _ _ (and-right (eqb (wordOf (x .answer)) (wordOf y)) _ q) in
     same-numbers (x .answer) y h (step-behind (a .drive) (x .bytes)) v c
-
--- the event records of a recording
-abbrev pub recordsIn : List Heard → List (List ℕ)
-recordsIn l = map (λ x. x .bytes) l
 
 -- an audit and a drive of the same trace, carried over a recording in which `answer` is not found
 same-from : (l : List Heard) (a : Audit) (d : Drive) (t : C.Trace) → Follows a t → Good d t → a .drive .wait ≡ d .wait

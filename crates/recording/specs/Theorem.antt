@@ -3,32 +3,24 @@ use mathlib.Core.Path.{_≡_, refl, sym, _∙_}
 use mathlib.Core.Bool.{Bool, true, false}
 use mathlib.Core.List.{List, [], _∷_}
 use Prim.Native.Nat.{ℕ}
-use Rattle.numbers.specs.Numbers.{on}
-use Rattle.numbers.specs.Laws.{cases}
 use Rattle.numbers.specs.Every.{Every, none, more}
-use Rattle.table.specs.Table.{actPosCov, rate}
+use Rattle.table.specs.Table.{rate}
 use Rattle.event.specs.Event.{eventIn}
-use Rattle.rules.specs.Report.{sent, differs}
+use Rattle.rules.specs.Report.{sent}
 use Rattle.answer.specs.Answer.{numberOf, wordOf, codeOf}
-use Rattle.damper.specs.declared.Drive.{Drive}
-use Rattle.damper.specs.declared.Last.{Last}
 use Rattle.damper.specs.Tick.{statusOf}
 use Rattle.history.specs.Readings as R
 use Rattle.history.specs.Claim as C
 use Rattle.history.specs.Agree.{status-agrees}
-use Rattle.history.specs.Facts.{lastOf, not-one}
+use Rattle.history.specs.Facts.{time-range, not-one, differs-law}
 use Rattle.audit.specs.declared.Audit.{Audit}
 use Rattle.audit.specs.declared.Findings.{Findings}
 use Rattle.audit.specs.declared.Met.{Met}
 use Rattle.audit.specs.declared.Said.{Said}
-use Rattle.audit.specs.Audit.{freshAudit, differsFrom, findingsOf, auditOf}
-use Rattle.recording.specs.Recording.{Heard, heardAs, traceFrom, traceHeard, Tells, Told, ToldFrom, findingsFrom}
+use Rattle.audit.specs.Audit.{freshAudit, findingsOf, auditOf}
+use Rattle.recording.specs.Recording.{Heard, heardAs, traceFrom, traceHeard, Tells, Told, ToldFrom, Clean, findingsFrom, auditAfter}
 use Rattle.recording.specs.Told.{where-told, unless-told, equal-told, unset-told, same-told, sent-told, move-told, spacing-told, waiting-told}
-use Rattle.recording.specs.Follows.{Follows, Says, Meets, fresh-follows, meets, heard-says, time-range, follows-on}
-
--- what differs from the last report that the record holds, and from what that says
-differs-read : (d : Drive) (l : Last) → differsFrom d l ≡ differs (actPosCov (d .params)) (d .position) (statusOf d) (lastOf l)
-differs-read d l = cases (on (l .reported)) (λ e. rw e) (λ e. rw e)
+use Rattle.recording.specs.Follows.{Follows, Says, Meets, fresh-follows, meets, heard-says, follows-on}
 
 module _ (a : Audit) (t : C.Trace) (f : Follows a t) (x : C.Moment) (m : Met) (g : Meets m x t) (y : Said) (z : Says y x) where
   -- what is found at a record is what fails there
@@ -39,12 +31,13 @@ module _ (a : Audit) (t : C.Trace) (f : Follows a t) (x : C.Moment) (m : Met) (g
       let before = C.positionAfter t in
       let target = R.targetFrom before (eventIn (x .bytes)) (C.accepted t) in
       let tick = C.acceptedAs R.isTick x t in
-      let time = time-range m x t g in
+      let time = time-range (m .drive) now (g .wf) (g .agrees) in
       let status = status-agrees _ _ (g .wf) (g .agrees) in
+      let differs = differs-law (m .drive) (statusOf (m .drive)) (a .drive .last) in
       record {
         spacing = rw (z .reports, g .tick, f .apart, g .agrees .params) (spacing-told x t (time .1));
         waiting =
-            rw (differs-read (m .drive) (a .drive .last), status, z .reports, g .tick, f .since, f .last, g .position, g .agrees .params)
+            rw (differs, status, z .reports, g .tick, f .since, f .last, g .position, g .agrees .params)
             (waiting-told x t (time .0) (time .1));
         moving =
             rw (g .tick, z .position)
@@ -89,11 +82,6 @@ tells-from (x ∷ l) a t f = (told-next a t f x, tells-from l _ (heardAs t x ∷
 pub audit-tells : (l : List Heard) → ToldFrom [] l (findingsFrom freshAudit l)
 audit-tells l = tells-from l freshAudit [] fresh-follows
 
--- the audit after a recording
-unfoldable pub auditAfter : Audit → List Heard → Audit
-auditAfter a [] = a
-auditAfter a (x ∷ l) = auditAfter (auditOf a (x .bytes) (x .answer) .audit) l
-
 -- it takes any record after a trace that it has followed and a recording
 taken-after : (l : List Heard) (a : Audit) (t : C.Trace) → Follows a t → (x : Heard)
     → auditOf (auditAfter a l) (x .bytes) (x .answer) .refusal ≡ 0
@@ -104,18 +92,6 @@ taken-after (y ∷ l) a t f x = taken-after l _ (heardAs t y ∷ t) (follows-nex
 -- After any recording the audit takes any record, whatever it was answered.
 pub audit-taken : (l : List Heard) (x : Heard) → auditOf (auditAfter freshAudit l) (x .bytes) (x .answer) .refusal ≡ 0
 audit-taken l x = taken-after l freshAudit [] fresh-follows x
-
--- no sentence is found to fail; `answer` is no sentence
-pub record Clean (f : Findings) : Type 0 where
-  pub spacing : f .spacing ≡ false
-  pub waiting : f .waiting ≡ false
-  pub moving : f .moving ≡ false
-  pub position : f .position ≡ false
-  pub content : f .content ≡ false
-  pub othermove : f .othermove ≡ false
-  pub otherreport : f .otherreport ≡ false
-  pub due : f .due ≡ false
-  pub refusal : f .refusal ≡ false
 
 -- a sentence that holds is not found
 unfound : (b : Bool) {S : Type 0} → Tells b S → S → b ≡ false

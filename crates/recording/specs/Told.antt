@@ -7,17 +7,17 @@ use native.Mathlib.Omega.{arith}
 use lib.Dec.{ltb, leb, eqb}
 use borrow.Author.Tests.{ltb-true, ltb-false, leb-true, le-leb, eqb-true, eqb-false, eq-eqb, not-true}
 use Rattle.numbers.specs.Numbers.{pick, distance, next}
-use Rattle.numbers.specs.Laws.{and-left, and-right, or-left, or-right, not-false}
+use Rattle.numbers.specs.Laws.{and-left, and-right, not-false}
 use Rattle.numbers.specs.Counts as Counts
 use Rattle.numbers.specs.CountLaws.{quiet-last}
 use Rattle.table.specs.Table.{minRepTime, actPosCov}
 use Rattle.event.specs.Event.{eventIn}
 use Rattle.motion.specs.Motion.{toward}
 use Rattle.motion.specs.Laws.{move-distance, move-left}
-use Rattle.rules.specs.Report.{changed, Sent, silent, sent, differs}
+use Rattle.rules.specs.Report.{changed, Sent, sent, differs}
 use Rattle.history.specs.Readings as R
 use Rattle.history.specs.Claim as C
-use Rattle.history.specs.Waits.{silent-in}
+use Rattle.history.specs.Waits.{same-sent, silent-in}
 use Rattle.recording.specs.Recording.{Tells}
 use Rattle.recording.specs.Counts.{apart, apart-least, apart-near, since-stretch}
 
@@ -90,14 +90,7 @@ move-told q p t r =
     same true e x y = let h : p < t = ltb-true p t e in up-to p t q _ (omega arith) x y
     same false e x y = less p q _ (down-to p t q _ (ltb-false p t e) x y)
 
--- where nothing differs there is a last report, of that status and near that position
-same-sent : (cov p s : ℕ) (x : Sent) → differs cov p s x ≡ false → (r : ℕ) × (x ≡ sent r s) × (changed cov p r ≡ false)
-same-sent cov p s silent e = absurd (false≢true (sym e))
-same-sent cov p s (sent r v) e =
-    let same = eqb-true s v (not-false _ (or-right (changed cov p r) _ e)) in
-    (r, rw same, or-left (changed cov p r) _ e)
-
--- and the other way
+-- with a last report of that status and near that position nothing differs
 sent-same : (cov p s r : ℕ) (x : Sent) → x ≡ sent r s → changed cov p r ≡ false → differs cov p s x ≡ false
 sent-same cov p s r x e c = rw (e, c, eq-eqb s s refl)
 

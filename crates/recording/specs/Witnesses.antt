@@ -48,7 +48,7 @@ abbrev pub foundIn : List Heard → List (List Finding)
 foundIn l = map namesIn (findingsFrom freshAudit l)
 
 -- `unfolding computation` opens the drive and the audit, so that a recording computes
-unfoldable pub computation : Unit {0}
+unfoldable computation : Unit {0}
 unfolding Drive.computation metBy findingsOf followed auditOf findingsFrom
 computation = tt
 

@@ -12,7 +12,7 @@ use borrow.Author.Tests.{eqb-true, eqb-false, not-true}
 use Rattle.numbers.specs.Laws.{cases, and-left, and-right, and-intro, or-left}
 use Rattle.numbers.specs.Places.{allBelow, implies}
 use Rattle.numbers.specs.PlaceLaws.{implied, all-at}
-use Rattle.event.specs.Event.{eventIn, readOf, formOf, dataRefusal, recordRefusal}
+use Rattle.event.specs.Event.{eventIn, formOf, dataRefusal, recordRefusal}
 use Rattle.event.specs.Laws.{admitted}
 use Rattle.rules.specs.Report.{silent}
 use Rattle.answer.specs.Answer.{isReport}
@@ -109,7 +109,7 @@ tick-accepted t = refl
 
 -- bytes that are no tick are none that the list accepts
 pub no-tick-in : (t : Trace) (s : List ℕ) (o : Outcome) → isTick s ≡ false → acceptedAs Readings.isTick (momentOf s o) t ≡ false
-unfolding readOf judgement
+unfolding judgement
 no-tick-in t s o n =
     cases (eqb (judgement (accepted t) s) 0)
     (λ q.
@@ -188,7 +188,6 @@ share-whole row cs i h =
 
 -- an event other than a tick is answered by no report
 pub quiet : (d : Drive) (s : List ℕ) → isTick s ≡ false → reportIn (stepOf d s .answer) ≡ silent
-unfolding readOf
 quiet d s t =
     cases (eqb (refusalOf d s) 0)
     (λ e.

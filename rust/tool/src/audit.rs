@@ -73,7 +73,7 @@ fn run(arguments: Arguments) -> Result<bool, Failure> {
         return Err(both);
     }
     let mut recording = Recording::open(records, lines)?;
-    let mut output = Output::open(None)?;
+    let mut output = Output::open(None, &[])?;
     let mut auditor = Auditor::fresh();
     match audit(&mut auditor, &mut recording, &mut output) {
         // Nobody reads it, and yet it was found.

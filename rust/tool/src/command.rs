@@ -1,7 +1,7 @@
 //! The command line.
 
 use crate::failure::Failure;
-use crate::output::same_file;
+use crate::nearest::nearest;
 use crate::{audit, draw, explain, scenario, words};
 use std::ffi::OsString;
 use std::io::{self, Write};
@@ -32,11 +32,10 @@ impl Arguments {
     /// Whether a flag is among them, which it then is no longer.
     pub fn flag(&mut self, names: &[&str]) -> bool {
         let before = self.options().len();
-        let end = before;
         let mut at = 0;
         self.left.retain(|word| {
             at += 1;
-            at > end || !names.iter().any(|name| word == name)
+            at > before || !names.iter().any(|name| word == name)
         });
         self.options().len() < before
     }
@@ -50,7 +49,11 @@ impl Arguments {
         if at == self.left.len() {
             return Err(self.usage(format!("`{}` wants a word behind it", option.to_string_lossy())));
         }
-        Ok(Some(self.left.remove(at)))
+        let value = self.left.remove(at);
+        if self.options().contains(&option) {
+            return Err(self.usage(format!("`{}` is given twice", option.to_string_lossy())));
+        }
+        Ok(Some(value))
     }
 
     /// What is left, at most `most` words, of which none looks like an option.
@@ -68,15 +71,10 @@ impl Arguments {
         Ok(self.left)
     }
 
-    /// What a command reads, at most `most` files, and where it writes by `-o`, which is none of them.
+    /// What a command reads, at most `most` files, and where it writes by `-o`.
     pub fn from_and_to(mut self, most: usize) -> Result<(Vec<OsString>, Option<OsString>), Failure> {
         let to = self.value(&["-o"])?;
-        let over = self.usage("the output would be written over the input");
-        let from = self.places(most)?;
-        match &to {
-            Some(to) if from.iter().any(|from| same_file(from, to)) => Err(over),
-            _ => Ok((from, to)),
-        }
+        Ok((self.places(most)?, to))
     }
 
     pub fn usage(&self, text: impl Into<String>) -> Failure {
@@ -119,13 +117,22 @@ fn carry_out(mut words: Vec<OsString>) -> Result<bool, Failure> {
     let first = words.remove(0);
     let first = first.to_string_lossy();
     match first.as_ref() {
+        "help" if !words.is_empty() => {
+            let command = words.remove(0);
+            words.insert(0, "--help".into());
+            words.insert(0, command);
+            return carry_out(words);
+        }
         "--help" | "-h" | "help" => return print(&overview()),
         "--version" | "-V" => return print(concat!("damper ", env!("CARGO_PKG_VERSION"), "\n")),
         _ => {}
     }
     let Some(command) = COMMANDS.iter().find(|command| command.name == first) else {
-        let names = COMMANDS.each_ref().map(|command| command.name).join(", ");
-        return Err(usage(format!("`{first}` is no command; there are {names}")));
+        let names = COMMANDS.each_ref().map(|command| command.name);
+        return Err(usage(match nearest(&first, &names) {
+            Some(name) => format!("`{first}` is no command; did you mean `{name}`?"),
+            None => format!("`{first}` is no command; there are {}", names.join(", ")),
+        }));
     };
     let mut arguments = Arguments { command: command.name, left: words };
     if arguments.flag(&["--help", "-h"]) {

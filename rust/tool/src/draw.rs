@@ -60,7 +60,7 @@ fn run(mut arguments: Arguments) -> Result<bool, Failure> {
         true => text::draw(&trace, &heading, width(env::var_os("COLUMNS").as_deref())),
         false => svg::draw(&trace, &heading),
     };
-    let mut output = Output::open(target.as_deref())?;
+    let mut output = Output::open(target.as_deref(), &[])?;
     output.bytes(picture.as_bytes())?;
     output.flush()?;
     Ok(true)

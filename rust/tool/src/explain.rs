@@ -40,8 +40,9 @@ fn run(arguments: Arguments) -> Result<bool, Failure> {
     let (from, to) = arguments.from_and_to(1)?;
     let mut input = Input::open(from.first())?;
     input.begin()?;
-    let mut output = Output::open(to.as_deref())?;
+    let mut output = Output::open(to.as_deref(), &[input.file()])?;
     explain(&mut input, &mut output)?;
+    input.hint();
     Ok(true)
 }
 

@@ -3,8 +3,10 @@
 use crate::failure::Failure;
 use crate::output::Output;
 use std::ffi::OsStr;
-use std::fs::File;
+use std::fs::{File, Metadata};
 use std::io::{self, IsTerminal, Read, Write};
+use std::os::fd::AsFd;
+use std::os::unix::fs::MetadataExt;
 use std::sync::atomic::{AtomicBool, Ordering};
 use std::time::{Duration, Instant};
 
@@ -17,12 +19,21 @@ const PIECE: usize = 1 << 16;
 /// Bytes of a line at most.
 const LINE: usize = 1 << 20;
 
+/// What some editors put in front of a text in UTF-8.
+const MARK: &[u8] = b"\xEF\xBB\xBF";
+
 /// Where bytes come from, its name for messages, and those at hand.
 pub struct Input {
     source: Box<dyn Read>,
     name: String,
+    file: Option<FileId>,
     /// Bytes taken so far.
     taken: u64,
+    /// Lines taken so far.
+    lines: usize,
+    /// Event records taken so far, and whether one of them has the mark.
+    records: u64,
+    marked: bool,
     buffer: Vec<u8>,
     /// The bytes of the buffer that have come and are not taken yet.
     start: usize,
@@ -36,11 +47,12 @@ impl Input {
     pub fn open(path: Option<impl AsRef<OsStr>>) -> Result<Input, Failure> {
         let path = path.as_ref().map(AsRef::as_ref).filter(|path| *path != "-");
         let Some(path) = path else {
-            return Ok(Input::new("standard input", io::stdin().lock()));
+            let file = FileId::of_stream(io::stdin());
+            return Ok(Input { file, ..Input::new("standard input", io::stdin().lock()) });
         };
         let name = path.to_string_lossy();
         let file = File::open(path).map_err(|error| Failure::stream(&name, None, error))?;
-        Ok(Input::new(&name, file))
+        Ok(Input { file: file.metadata().ok().and_then(FileId::of), ..Input::new(&name, file) })
     }
 
     /// Any source under a name.
@@ -48,7 +60,11 @@ impl Input {
         Input {
             source: Box::new(source),
             name: name.to_string(),
+            file: None,
             taken: 0,
+            lines: 0,
+            records: 0,
+            marked: false,
             buffer: vec![0; PIECE],
             start: 0,
             end: 0,
@@ -67,6 +83,23 @@ impl Input {
         &self.name
     }
 
+    /// Which file it is, if it is one.
+    pub fn file(&self) -> Option<FileId> {
+        self.file
+    }
+
+    /// Says on standard error that these are no event records, if not one of them has the mark: a scenario in words
+    /// was given, perhaps.
+    pub fn hint(&self) {
+        if self.records > 0 && !self.marked {
+            let _ = writeln!(
+                io::stderr(),
+                "damper: {}: no event record begins with 5A C3; `damper bytes` makes records of words",
+                self.name
+            );
+        }
+    }
+
     /// Waits for the first bytes, so that an input that cannot be read is known before an output is made.
     pub fn begin(&mut self) -> Result<(), Failure> {
         while self.start == self.end && !self.ended {
@@ -80,25 +113,32 @@ impl Input {
         while self.end - self.start < RECORD && !self.ended {
             self.more(output)?;
         }
-        Ok(self.take(RECORD.min(self.end - self.start)))
+        let length = RECORD.min(self.end - self.start);
+        self.records += u64::from(length > 0);
+        self.marked |= self.buffer[self.start..self.end].starts_with(&[0x5A, 0xC3]);
+        Ok(self.take(length))
     }
 
     /// The next line without its line feed; the last one may have none. What was written goes out before a wait.
     pub fn line(&mut self, output: &mut Output) -> Result<Option<&[u8]>, Failure> {
+        while self.taken == 0 && self.end - self.start < MARK.len() && !self.ended {
+            self.more(output)?;
+        }
+        if self.taken == 0 && self.buffer[self.start..self.end].starts_with(MARK) {
+            self.take(MARK.len());
+        }
         let mut searched = 0;
         loop {
             let at_hand = &self.buffer[self.start..self.end];
-            if let Some(found) = at_hand[searched..].iter().position(|byte| *byte == b'\n') {
-                let line = self.take(searched + found + 1);
-                return Ok(line.map(|line| &line[..line.len() - 1]));
-            }
+            let found = at_hand[searched..].iter().position(|byte| *byte == b'\n').map(|at| searched + at);
             searched = at_hand.len();
-            if self.ended {
-                return Ok(self.take(searched));
+            if found.unwrap_or(searched) > LINE {
+                return Err(Failure::text(&self.name, self.lines + 1, 1, "a line of more than 1 MiB"));
             }
-            if searched > LINE {
-                let error = io::Error::new(io::ErrorKind::InvalidData, "a line of more than 1 MiB");
-                return Err(Failure::stream(&self.name, Some(self.taken), error));
+            if found.is_some() || self.ended {
+                self.lines += 1;
+                let line = self.take(found.map_or(searched, |at| at + 1));
+                return Ok(line.map(|line| line.strip_suffix(b"\n").unwrap_or(line)));
             }
             self.more(output)?;
         }
@@ -183,5 +223,21 @@ impl Progress {
 impl Drop for Progress {
     fn drop(&mut self) {
         clear_progress();
+    }
+}
+
+/// A regular file, by its device and its number there.
+#[derive(Clone, Copy, PartialEq, Eq, Debug)]
+pub struct FileId(u64, u64);
+
+impl FileId {
+    pub fn of(file: Metadata) -> Option<FileId> {
+        file.is_file().then(|| FileId(file.dev(), file.ino()))
+    }
+
+    /// Of an open stream, if it goes to a file.
+    pub fn of_stream(stream: impl AsFd) -> Option<FileId> {
+        let file = File::from(stream.as_fd().try_clone_to_owned().ok()?);
+        file.metadata().ok().and_then(FileId::of)
     }
 }

@@ -26,15 +26,34 @@ impl Lines {
         self.count
     }
 
-    /// What the next line says; None at the end.
+    /// What the next line says; None at the end, where empty lines are passed over.
     pub fn said(&mut self, output: &mut Output) -> Result<Option<Said>, Failure> {
         let Some(line) = self.input.line(output)? else { return Ok(None) };
         self.count += 1;
-        match parse(line, self.count) {
-            Ok(said) => Ok(Some(said)),
-            Err(Wrong { column, text }) => Err(Failure::text(self.input.name(), self.count, column, text)),
-        }
+        let wrong = match parse(line, self.count) {
+            Ok(said) => return Ok(Some(said)),
+            Err(_) if is_empty(line) && self.ends(output)? => {
+                self.count -= 1;
+                return Ok(None);
+            }
+            Err(wrong) => wrong,
+        };
+        Err(Failure::text(self.input.name(), self.count, wrong.column, wrong.text))
     }
+
+    /// Whether none but empty lines are left.
+    fn ends(&mut self, output: &mut Output) -> Result<bool, Failure> {
+        while let Some(line) = self.input.line(output)? {
+            if !is_empty(line) {
+                return Ok(false);
+            }
+        }
+        Ok(true)
+    }
+}
+
+fn is_empty(line: &[u8]) -> bool {
+    line.iter().all(|byte| is_blank(byte) || *byte == b'\r')
 }
 
 /// What is wrong with a line, and at which column, from 1.
@@ -78,11 +97,14 @@ pub fn parse(line: &[u8], count: usize) -> Result<Said, Wrong> {
     };
     match words.word() {
         (_, b"") => Ok(said),
-        (column, word) => Err(Wrong { column, text: format!("the line ends here, without {}", shown(word)) }),
+        (column, word) => {
+            Err(Wrong { column, text: format!("the end of the line is due, not {}", shown(word)) })
+        }
     }
 }
 
-/// The words of a line, which blanks part.
+/// The words of a line, which blanks and tabs part.
+#[derive(Clone)]
 struct Words<'l> {
     line: &'l [u8],
     at: usize,
@@ -92,8 +114,8 @@ impl<'l> Words<'l> {
     /// The next word and its column; no bytes at the end.
     fn word(&mut self) -> (usize, &'l [u8]) {
         let rest = &self.line[self.at..];
-        let blanks = rest.iter().take_while(|byte| **byte == b' ').count();
-        let length = rest[blanks..].iter().take_while(|byte| **byte != b' ').count();
+        let blanks = rest.iter().take_while(|byte| is_blank(byte)).count();
+        let length = rest[blanks..].iter().take_while(|byte| !is_blank(byte)).count();
         self.at += blanks + length;
         (self.at - length + 1, &rest[blanks..blanks + length])
     }
@@ -121,6 +143,10 @@ impl<'l> Words<'l> {
         self.at = before;
         self.byte("a status or `-`").map(Some)
     }
+}
+
+fn is_blank(byte: &u8) -> bool {
+    matches!(byte, b' ' | b'\t')
 }
 
 /// A word in a message: printable ones as they are, and not more than fits.

@@ -1,10 +1,15 @@
 //! The nearest word, for a message about an unknown one.
 
-/// The known word that an unknown one was likely meant to be: the first of those that the fewest letters put in,
-/// left out, changed or exchanged with their neighbour lead to. These may be a third of its letters, or one.
+/// The known word that an unknown one was likely meant to be: the only one that begins with its letters, three at
+/// least, or the first of those that the fewest letters put in, left out, changed or exchanged with their neighbour
+/// lead to. These may be a third of its letters.
 pub fn nearest<'k>(word: &str, known: &[&'k str]) -> Option<&'k str> {
     let word = letters(word);
-    let most = (word.len() / 3).max(1);
+    let begun: Vec<_> = known.iter().filter(|known| letters(known).starts_with(&word)).collect();
+    if let ([only], 3..) = (&begun[..], word.len()) {
+        return Some(only);
+    }
+    let most = word.len().div_ceil(3);
     known
         .iter()
         .map(|known| (letters(known), *known))
@@ -66,6 +71,8 @@ mod tests {
         assert_eq!(nearest("rset", &known), Some("set"));
         assert_eq!(nearest("window", &known), None);
         assert_eq!(nearest("", &known), None);
+        assert_eq!(nearest("setpunkt", &known), Some("setpoint"));
+        assert_eq!(nearest("setp", &known), Some("setpoint"));
         assert_eq!(nearest(&"t".repeat(1 << 20), &known), None);
         assert_eq!(nearest("b", &["a", "c"]), Some("a"));
     }

@@ -1,7 +1,7 @@
 //! Output: standard output or a file.
 
 use crate::failure::Failure;
-use crate::input::clear_progress;
+use crate::input::{clear_progress, FileId};
 use std::ffi::OsStr;
 use std::fs::{self, File};
 use std::io::{self, BufWriter, Write};
@@ -13,12 +13,20 @@ pub struct Output {
 }
 
 impl Output {
-    /// The file of that path, which is made anew, or standard output for `-` and for none.
-    pub fn open(path: Option<&OsStr>) -> Result<Output, Failure> {
-        let Some(path) = path.filter(|path| *path != "-") else {
-            return Ok(Output::new("standard output", Standard(io::stdout().lock())));
+    /// The file of that path, which is made anew, or standard output for `-` and for none. It is none of the files
+    /// that are read, which it would be written over.
+    pub fn open(path: Option<&OsStr>, read: &[Option<FileId>]) -> Result<Output, Failure> {
+        let path = path.filter(|path| *path != "-");
+        let name = path.map_or("standard output".into(), OsStr::to_string_lossy);
+        let file = match path {
+            None => FileId::of_stream(io::stdout()),
+            Some(path) => fs::metadata(path).ok().and_then(FileId::of),
         };
-        let name = path.to_string_lossy();
+        if file.is_some() && read.contains(&file) {
+            let over = io::Error::other("the output would be written over the input");
+            return Err(Failure::stream(&name, None, over));
+        }
+        let Some(path) = path else { return Ok(Output::new(&name, Standard(io::stdout().lock()))) };
         let file = File::create(path).map_err(|error| Failure::stream(&name, None, error))?;
         Ok(Output::new(&name, file))
     }
@@ -59,10 +67,4 @@ impl Write for Standard {
     fn flush(&mut self) -> io::Result<()> {
         self.0.flush()
     }
-}
-
-/// Whether two paths, of which `-` is none, lead to one file.
-pub fn same_file(one: &OsStr, other: &OsStr) -> bool {
-    let file = |path: &OsStr| fs::canonicalize(path).ok().filter(|file| path != "-" && file.is_file());
-    file(one).is_some_and(|one| file(other) == Some(one))
 }

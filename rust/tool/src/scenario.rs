@@ -45,7 +45,8 @@ the records go to standard output. If a line is wrong, nothing is written.
 
 `set`, `override` and `release` take the property of the DamperMode that the
 lines before have written, 1 at first, or of another by `in mode N`. `%` may
-be left out. A value that the drive will refuse is written as it is.
+be left out. What the drive will refuse for its state, and a parameter's value
+out of its range, are written as they are; what is no event record, by `raw`.
 
 Parameters, by name or number: DamperMode 111, OpenCloseDirection 115,
 ActPosCOV 116, MinRepTime 117, BackupMode 120, BackupValue 121,
@@ -60,8 +61,10 @@ difference.
 
 fn run(arguments: Arguments) -> Result<bool, Failure> {
     let (from, to) = arguments.from_and_to(1)?;
-    let scenario = Scenario::read(Input::open(from.first())?)?;
-    let mut output = Output::open(to.as_deref())?;
+    let input = Input::open(from.first())?;
+    let file = input.file();
+    let scenario = Scenario::read(input)?;
+    let mut output = Output::open(to.as_deref(), &[file])?;
     scenario.write(&mut output)?;
     Ok(true)
 }

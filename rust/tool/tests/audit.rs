@@ -429,7 +429,7 @@ mod binary {
         let (code, _, said) = status(&records, Path::new("/"));
         assert_eq!((code, said.starts_with("damper: /: byte 0: ")), (2, true), "{said}");
         let (code, _, said) = status(&records, Path::new("/dev/zero"));
-        assert_eq!((code, said.starts_with("damper: /dev/zero: byte 0: ")), (2, true), "{said}");
+        assert_eq!((code, said.starts_with("damper: /dev/zero:1:1: ")), (2, true), "{said}");
         for words in [&[][..], &["records"], &["-", "-"], &["a", "b", "c"], &["--what", "a", "b"]] {
             let done = damper().args(words).output().unwrap();
             assert_eq!((done.status.code(), done.stdout.len()), (Some(2), 0), "{words:?}");

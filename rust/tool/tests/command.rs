@@ -90,7 +90,7 @@ fn command_lines() {
         fails(&["--output=file"], "`--output=file` is no option here");
         fails(&["-o"], "`-o` wants a word behind it");
         fails(&["one", "two"], "`two` is one word too many");
-        fails(&["-o", "one", "-o", "two"], "`-o` is no option here");
+        fails(&["-o", "one", "-o", "two"], "`-o` is given twice");
     }
 }
 

@@ -60,7 +60,7 @@ impl<'l> Line<'l> {
         if word.text.is_empty() {
             return Ok(());
         }
-        Err(word.wrong(format!("the line ends here, without {}", word.shown())))
+        Err(word.is_not("the end of the line"))
     }
 
     pub fn number(&mut self, what: &str, range: RangeInclusive<u32>) -> Result<u32, Wrong> {

@@ -1,9 +1,9 @@
 use mathlib.Core.Path.{sym, _∙_}
 use borrow.Author.Tests.{eq-eqb, ne-eqb}
 use Rattle.event.specs.Laws.{record-passed}
 use borrow.Author.Needs.{needs}
-use Rattle.audit.proofs.kind_in.Statement.{statement}
-use Rattle.audit.proofs.kind_in.Tie as tie
+use Rattle.event.proofs.kind_in.Statement.{statement}
+use Rattle.event.proofs.kind_in.Tie as tie
 
 returns : tie.Need-returns
 returns c =
