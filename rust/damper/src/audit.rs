@@ -103,7 +103,7 @@ pub struct Findings {
     pub due: bool,
     /// Each event is carried out, or refused by the first fitting number.
     pub refusal: bool,
-    /// The answer is the one that document 01's drive gives, had it sent the reports so far.
+    /// The answer is the one that the proved drive gives, had it sent the reports so far.
     pub answer: bool,
 }
 

@@ -49,6 +49,18 @@ pub enum Command {
 }
 
 impl Event {
+    /// An LTE setpoint by the property that belongs to that DamperMode, 1 to 4.
+    ///
+    /// ```
+    /// use damper::{Command, Event};
+    ///
+    /// let release = Event::Lte { property: 52, command: Command::Release };
+    /// assert_eq!(Event::lte(2, Command::Release), release);
+    /// ```
+    pub const fn lte(mode: u16, command: Command) -> Event {
+        Event::Lte { property: 50u8.wrapping_add(mode as u8), command }
+    }
+
     /// The six bytes, by the proved writer. An event of this type is refused only for its plain numbers: by
     /// [`Refusal::Value`] for a property or a forcing that is none, by [`Refusal::Percent`] for more than
     /// 100 %.
@@ -204,6 +216,19 @@ mod tests {
             if let Ok(bytes) = bytes {
                 assert_eq!(bytes, event.unchecked());
                 assert_eq!(Event::read(&bytes), Ok(event));
+            }
+        }
+    }
+
+    /// The drive takes an LTE setpoint by the property of its mode, and no other.
+    #[test]
+    fn by_the_mode() {
+        for written in Parameter::DamperMode.range() {
+            let mut drive = Drive::fresh();
+            drive.give(Event::WriteParameter(Parameter::DamperMode, written));
+            for mode in Parameter::DamperMode.range() {
+                let answer = drive.give(Event::lte(mode, Command::Override(50)));
+                assert_eq!(answer == Answer::Done, mode == written);
             }
         }
     }

@@ -3,6 +3,7 @@
 
 pub mod audit;
 pub mod command;
+pub mod count;
 pub mod draw;
 pub mod explain;
 pub mod failure;

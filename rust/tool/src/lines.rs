@@ -2,7 +2,7 @@
 //! the answer.
 
 use crate::failure::Failure;
-use crate::input::Input;
+use crate::input::{FileId, Input};
 use crate::output::Output;
 use damper::Said;
 
@@ -19,6 +19,16 @@ impl Lines {
 
     pub fn name(&self) -> &str {
         self.input.name()
+    }
+
+    /// Waits for the first bytes.
+    pub fn begin(&mut self) -> Result<(), Failure> {
+        self.input.begin()
+    }
+
+    /// Which file it is, if it is one.
+    pub fn file(&self) -> Option<FileId> {
+        self.input.file()
     }
 
     /// Lines so far.
@@ -67,11 +77,10 @@ pub struct Wrong {
 pub fn parse(line: &[u8], count: usize) -> Result<Said, Wrong> {
     let line = line.strip_suffix(b"\r").unwrap_or(line);
     let mut words = Words { line, at: 0 };
-    if words.number("the record's count", u64::MAX)? != count as u64 {
-        return Err(Wrong {
-            column: 1,
-            text: format!("this is line {count}, and not that of another record"),
-        });
+    let (column, word) = words.clone().word();
+    let due = format!("the count {count}");
+    if words.number(&due, u64::MAX)? != count as u64 {
+        return Err(Wrong { column, text: format!("{due} is due, not {}", shown(word)) });
     }
     let said = match words.word() {
         (_, b"ok") => Said::Done,
@@ -178,6 +187,25 @@ mod tests {
             assert_eq!(parse(format!("{count} {answer}").as_bytes(), count), Ok(answer.said()));
             assert_eq!(parse(format!("{count} {answer}\r").as_bytes(), count), Ok(answer.said()));
         }
+    }
+
+    #[test]
+    fn tabs_and_empty_lines_at_the_end() {
+        let said = |text: &'static str| {
+            let mut lines = Lines::new(Input::new("lines", text.as_bytes()));
+            let mut all = Vec::new();
+            while let Some(said) = lines.said(&mut Output::none())? {
+                all.push(said);
+            }
+            Ok::<_, Failure>((all, lines.count()))
+        };
+        assert_eq!(said("1\tok \n2 no\t5\t").unwrap(), (vec![Said::Done, Said::Refused(5)], 2));
+        assert_eq!(said("1 ok\n\n \t\r\n").unwrap(), (vec![Said::Done], 1));
+        assert_eq!(said("\n").unwrap(), (vec![], 0));
+        let message = said("1 ok\n\n2 ok\n").unwrap_err().to_string();
+        assert_eq!(message, "lines:2:1: the count 2 is due, not the end of the line");
+        let message = said("1 ok\n3 ok\n").unwrap_err().to_string();
+        assert_eq!(message, "lines:2:1: the count 2 is due, not `3`");
     }
 
     #[test]

@@ -1,7 +1,7 @@
 //! A recording of a drive, ours or another's: event records, and the printed line of each.
 
 use crate::failure::Failure;
-use crate::input::Input;
+use crate::input::{FileId, Input};
 use crate::lines::Lines;
 use crate::output::Output;
 use damper::Said;
@@ -22,6 +22,22 @@ impl Recording {
 
     pub fn new(records: Input, lines: Input) -> Recording {
         Recording { records, lines: Lines::new(lines), count: 0 }
+    }
+
+    /// Waits for the first bytes of both.
+    pub fn begin(&mut self) -> Result<(), Failure> {
+        self.records.begin()?;
+        self.lines.begin()
+    }
+
+    /// Which files they are, if they are any.
+    pub fn files(&self) -> [Option<FileId>; 2] {
+        [self.records.file(), self.lines.file()]
+    }
+
+    /// Says on standard error if the records are none.
+    pub fn hint(&self) {
+        self.records.hint();
     }
 
     /// The next record and what its line says; None at the end of both.

@@ -103,15 +103,15 @@ fn event_in_words(event: Event, mode: u16) -> String {
     match event {
         Event::Tick => "tick".to_string(),
         Event::Setpoint(position) => format!("setpoint {position}"),
-        Event::Lte { property, command } => {
-            let command = match command {
+        Event::Lte { command, .. } => {
+            let words = match command {
                 Write(percent) => format!("set {percent} %"),
                 Override(percent) => format!("override {percent} %"),
                 Release => "release".to_string(),
             };
-            match u16::from(property) - 50 {
-                own if own == mode => command,
-                other => format!("{command} in mode {other}"),
+            match Parameter::DamperMode.range().find(|mode| Event::lte(*mode, command) == event) {
+                Some(other) if other != mode => format!("{words} in mode {other}"),
+                _ => words,
             }
         }
         Event::Forcing(forcing) => format!("forcing {forcing}"),

@@ -363,6 +363,78 @@ fn random_bytes() {
     }
 }
 
+/// Records that fail in other ways are other lines.
+#[test]
+fn other_ways_are_other_lines() {
+    // A setpoint whose unused byte is 1 is refused by 5, and a Rate of 300 by 10.
+    let scenario = "setpoint 128\ntick 5\nread Rate\nread Rate\nread High\nread\nread\nread\n\
+                    raw 5AC302000100\nraw 5AC302000100\nwrite Rate 300\nwrite Rate 300\n\
+                    setpoint 128\ncalibrate\n";
+    let file = common::folder("audit-ways").join("scenario");
+    fs::write(&file, scenario).unwrap();
+    let records = records_of(&file);
+    let right = lines_of(&Proved, &records);
+    let rows = [
+        (2, "2 tick 5 2 1 -"),  // the rank
+        (3, "3 tick 10 3 1 -"), // the same
+        (4, "4 tick 15 1 2 -"), // the motor
+        (5, "5 tick 20 2 2 -"), // both
+        (6, "6 tick 25 1 1 0"), // a report
+        (7, "7 par 6"),         // a value
+        (8, "8 par 7"),         // the same
+        (9, "9 par 6"),         // of another parameter
+        (10, "10 at 25 11 0"),  // the percent
+        (11, "11 at 25 12 0"),  // the same
+        (12, "12 at 25 10 4"),  // the status
+        (13, "13 no 6"),        // another refusal
+        (14, "14 no 6"),        // the same
+        (15, "15 no 6"),        // for another one
+        (16, "16 no 9"),        // by another one
+        (17, "17 no 9"),        // though it is carried out
+        (18, "18 par 1"),       // a form of line that is carried out
+    ];
+    let mut lines: Vec<&str> = right.lines().collect();
+    assert_eq!(lines.len(), 18);
+    for (at, line) in rows {
+        assert_ne!(lines[at - 1], line);
+        lines[at - 1] = line;
+    }
+    let (text, _, end) = audited(&records, lines.join("\n").as_bytes());
+    end.unwrap();
+    let of = |name: &str| -> Vec<String> {
+        let name = format!(": {name}: ");
+        let place =
+            |line: &str| line.split(", ").next().unwrap().replace("records ", "").replace("record ", "");
+        text.lines().filter(|line| line.contains(&name)).map(place).collect()
+    };
+    let answers =
+        ["2 to 3", "4", "5", "6", "7 to 8", "9", "10 to 11", "12", "13 to 14", "15", "16", "17", "18"];
+    assert_eq!(of("answer"), answers, "{text}");
+    assert_eq!(of("refusal"), ["13 to 14", "15", "16", "17"], "{text}");
+}
+
+/// Reports with another position, another status or both.
+#[test]
+fn ways_of_content() {
+    let min_rep_time = damper::Event::WriteParameter(damper::Parameter::MinRepTime, 1).to_bytes().unwrap();
+    let tick = damper::Event::Tick.to_bytes().unwrap();
+    let records = [&min_rep_time[..], &tick.repeat(6)].concat();
+    let lines = "1 ok\n2 tick 0 0 0 33\n3 tick 0 0 0 34\n4 tick 1 0 0 32\n5 tick 2 0 0 32\n\
+                 6 tick 3 0 0 33\n7 tick 0 0 0 33\n";
+    let (text, _, end) = audited(&records, lines.as_bytes());
+    end.unwrap();
+    let content: Vec<&str> = text.lines().filter(|line| line.contains(": content: ")).collect();
+    let starts = ["records 2 to 3,", "records 4 to 5,", "record 6,", "record 7,"];
+    assert_eq!(content.len(), 4, "{text}");
+    assert!(content.iter().zip(starts).all(|(line, start)| line.starts_with(start)), "{text}");
+    assert!(content[2].ends_with(
+        ": the report gives position 3, status 33 (fault, bus not active), and by the list the tick leaves \
+         position 0, status 32 (bus not active)"
+    ));
+    let (text, _, _) = audited(&tick[..5], b"1 tick 0 0 0 0\n");
+    assert!(text.contains("and by the list the event leaves position 0, status 32 "), "{text}");
+}
+
 /// A stretch that goes on while very many others come and go is broken in two and hides none.
 #[test]
 fn many_findings_behind_an_open_one() {
@@ -438,6 +510,31 @@ mod binary {
         let help = String::from_utf8(done.stdout).unwrap();
         assert_eq!(done.status.code(), Some(0));
         assert!(Sentence::ALL.iter().all(|sentence| help.contains(&format!("\n    {} ", sentence.name()))));
+        assert!(help.lines().all(|line| line.len() <= 80));
+    }
+
+    #[test]
+    fn to_a_file() {
+        let [records, right, wrong] = files("audit-file");
+        let target = records.with_file_name("found");
+        for (lines, code) in [(&right, 0), (&wrong, 1)] {
+            let (_, text, _) = status(&records, lines);
+            let done = damper().args([&records, lines]).arg("-o").arg(&target).output().unwrap();
+            assert_eq!((done.status.code(), done.stdout.len(), done.stderr.len()), (Some(code), 0, 0));
+            assert_eq!(fs::read_to_string(&target).unwrap(), text);
+        }
+        fs::remove_file(&target).unwrap();
+        for places in [["/", "-"].map(Path::new), [&records, Path::new("/")], [&records, Path::new("/none")]]
+        {
+            let done = damper().args(places).arg("-o").arg(&target).output().unwrap();
+            assert_eq!((done.status.code(), target.exists()), (Some(2), false), "{places:?}");
+        }
+        for input in [&records, &wrong] {
+            let done = damper().args([&records, &wrong]).arg("-o").arg(input).output().unwrap();
+            let said = String::from_utf8(done.stderr).unwrap();
+            assert_eq!(done.status.code(), Some(2));
+            assert!(said.contains("the output would be written over the input"), "{said}");
+        }
     }
 
     #[test]

@@ -79,8 +79,10 @@ fn command_lines() {
     let more = "(`damper --help` tells more)";
     fails(damper(&[], b""), &format!("a command is missing {more}"));
     let known = "there are bytes, words, explain, draw, audit";
-    fails(damper(&["byte"], b""), &format!("`byte` is no command; {known} {more}"));
-    fails(damper(&["--bytes"], b""), &format!("`--bytes` is no command; {known} {more}"));
+    fails(damper(&["byte"], b""), &format!("`byte` is no command; did you mean `bytes`? {more}"));
+    fails(damper(&["picture"], b""), &format!("`picture` is no command; {known} {more}"));
+    assert_eq!(damper(&["help", "words"], b"").stdout, damper(&["words", "--help"], b"").stdout);
+    assert_eq!(damper(&["help"], b"").stdout, damper(&["--help"], b"").stdout);
     for command in ["bytes", "words"] {
         let fails = |arguments: &[&str], message: &str| {
             let output = damper(&[&[command], arguments].concat(), b"");
@@ -119,19 +121,66 @@ fn input_that_cannot_be_read() {
     }
 }
 
-/// By whatever path.
+/// By whatever path or stream; a limit ends what would read its own output.
 #[test]
 fn input_that_is_the_output() {
-    let (file, other) = (format!("{FOLDER}/itself"), format!("{FOLDER}/./itself"));
-    for command in ["bytes", "words"] {
-        fs::write(&file, "tick").unwrap();
-        let message = "the output would be written over the input";
-        let output = damper(&[command, &file, "-o", &other], b"");
-        fails(output, &format!("{message} (`damper {command} --help` tells more)"));
-        assert_eq!(fs::read(&file).unwrap(), b"tick");
+    let message = "the output would be written over the input";
+    for (command, content) in [("bytes", &b"tick"[..]), ("words", &TICK), ("explain", &TICK), ("draw", &TICK)]
+    {
+        let (file, linked) = (format!("{FOLDER}/{command}-itself"), format!("{FOLDER}/{command}-linked"));
+        let _ = fs::remove_file(&linked);
+        fs::write(&file, content).unwrap();
+        fs::hard_link(&file, &linked).unwrap();
+        for target in [&file, &format!("{FOLDER}/./{command}-itself"), &linked] {
+            fails(damper(&[command, &file, "-o", target], b""), &format!("{target}: {message}"));
+        }
+        for (redirected, name) in [
+            (format!("$DAMPER {command} - -o {file} < {file}"), file.as_str()),
+            (format!("$DAMPER {command} {file} >> {file}"), "standard output"),
+        ] {
+            fails(shell(&format!("ulimit -f 1000; {redirected}")), &format!("{name}: {message}"));
+        }
+        assert_eq!(fs::read(&file).unwrap(), content);
         let output = damper(&[command, "/dev/null", "-o", "/dev/null"], b"");
         assert_eq!((output.status.code(), text(&output.stderr)), (Some(0), ""));
     }
+}
+
+const TICK: [u8; 6] = [0x5A, 0xC3, 1, 0, 0, 0];
+
+/// A scenario where event records are asked for.
+#[test]
+fn words_for_records() {
+    let hint = "no event record begins with 5A C3; `damper bytes` makes records of words\n";
+    for command in ["words", "explain", "draw"] {
+        let output = damper(&[command], b"tick 600\nrestart\n");
+        assert_eq!(output.status.code(), Some(0));
+        assert_eq!(text(&output.stderr), format!("damper: standard input: {hint}"));
+        for records in [&b""[..], &TICK, &[&[0; 6], &TICK[..]].concat()] {
+            assert_eq!(text(&damper(&[command], records).stderr), "");
+        }
+    }
+}
+
+/// As some editors save a text.
+#[test]
+fn byte_order_mark() {
+    assert_eq!(damper(&["bytes"], b"\xEF\xBB\xBFtick\r\n").stdout, TICK);
+    fails(
+        damper(&["bytes"], b"\xEF\xBB\xBFtack"),
+        "standard input:1:1: an event is due, not `tack`; did you mean `tick`?",
+    );
+}
+
+/// Whether it comes at once or in pieces.
+#[test]
+fn long_lines() {
+    let line = |length: usize| [&b"tick\n#"[..], &vec![b' '; length - 1], b"\n"].concat();
+    assert_eq!(damper(&["bytes"], &line(1 << 20)).stdout, TICK);
+    fails(damper(&["bytes"], &line((1 << 20) + 1)), "standard input:2:1: a line of more than 1 MiB");
+    let file = format!("{FOLDER}/long-lines");
+    fs::write(&file, line((1 << 20) + 1)).unwrap();
+    fails(damper(&["bytes", &file], b""), &format!("{file}:2:1: a line of more than 1 MiB"));
 }
 
 #[test]
@@ -181,7 +230,8 @@ fn closed_pipes() {
 }
 
 /// Two records with a pause between them, in a shell.
-const SLOW: &str = "(printf 123456; sleep 1.8; printf 123456) | $DAMPER words";
+const SLOW: &str =
+    r#"(printf "\132\303\011\000\000\000"; sleep 1.8; printf "\132\303\011\000\000\000") | $DAMPER words"#;
 
 fn shell(script: &str) -> Output {
     Command::new("sh").args(["-c", script]).env("DAMPER", DAMPER).stdin(Stdio::null()).output().unwrap()
@@ -205,8 +255,7 @@ fn no_progress_among_the_words() {
         return;
     }
     let seen = shell(&format!("script -qec '{SLOW}' /dev/null")).stdout;
-    let line = "raw 313233343536                # refused by 3: the first two bytes are not 5A C3\r\n";
-    assert_eq!(text(&seen).replace("\rdamper: 0 KiB\r\x1b[K", ""), line.repeat(2));
+    assert_eq!(text(&seen).replace("\rdamper: 0 KiB\r\x1b[K", ""), "restart\r\nrestart\r\n");
 }
 
 #[test]

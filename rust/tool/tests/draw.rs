@@ -32,7 +32,7 @@ fn bytes(event: Event) -> [u8; 6] {
 
 /// The proved drive along records of six bytes and a shorter rest.
 fn of(records: &[u8]) -> Trace {
-    proved(Input::new("records", Cursor::new(records.to_vec()))).unwrap()
+    proved(&mut Input::new("records", Cursor::new(records.to_vec()))).unwrap()
 }
 
 fn recording(records: Vec<u8>, lines: Vec<u8>) -> Recording {
@@ -42,7 +42,7 @@ fn recording(records: Vec<u8>, lines: Vec<u8>) -> Recording {
 /// What a drive said to each record.
 fn of_lines(records: &[u8], said: &[Said]) -> Trace {
     let lines: String = said.iter().zip(1..).map(|(said, count)| format!("{count} {said}\n")).collect();
-    told(recording(records.to_vec(), lines.into_bytes())).unwrap()
+    told(&mut recording(records.to_vec(), lines.into_bytes())).unwrap()
 }
 
 /// The scenario of ./sample.
@@ -310,7 +310,8 @@ fn the_most_circles() {
         let list = bytes(Event::Tick).repeat(count);
         let picture = svg::draw(&of_lines(&list, &vec![said(255); count]), "");
         assert!(picture.len() < SIZE, "{} bytes", picture.len());
-        assert_eq!(picture.matches("<circle").count(), if count == 2_000 { 2_001 } else { 1 });
+        assert_eq!(picture.matches("<circle").count(), if count == 2_000 { 2_001 } else { 0 });
+        assert_eq!(picture.contains("Every report has a mark, which several"), count == 2_001);
     }
 }
 
@@ -389,7 +390,7 @@ fn any_lines_are_drawn() {
         text::draw(&trace, "a\u{1b}[2J", 40 + rng.below(361) as usize);
 
         let garbled: Vec<u8> = (0..rng.below(60)).map(|_| rng.pick(b"0123 tickokatnopar-\n\r\xff")).collect();
-        let _ = told(recording(list, garbled));
+        let _ = told(&mut recording(list, garbled));
     }
 }
 
@@ -403,10 +404,75 @@ fn the_proved_drive_by_its_lines() {
     let columns = own.columns(svg::COLUMNS).0.len();
     let shown = |trace| read::shown(&svg::draw(trace, ""), columns);
     let (own, told) = (shown(&own), shown(&told));
-    let known = |spans: &BTreeMap<usize, (u8, u8)>| spans.clone().into_iter().skip(1).collect::<Vec<_>>();
-    assert_eq!(known(&own.damper), known(&told.damper));
+    assert_eq!(own.damper, told.damper);
     assert_eq!((own.log, own.reports, own.ranks), (told.log, told.reports, told.ranks));
     assert_eq!((own.refused, own.restarts, own.reported), (told.refused, told.restarts, told.reported));
+}
+
+/// Of a drive by its lines: hatched until a line tells it; and `?` in characters.
+#[test]
+fn a_status_that_is_not_known() {
+    let tick = |report| Said::Tick { position: 0, rank: 0, motor: 0, report };
+    let list = bytes(Event::Tick).repeat(20);
+    let mut said = [tick(None); 20];
+    let shown = |said: &[Said]| {
+        let trace = of_lines(&list, said);
+        let (picture, in_characters) = (svg::draw(&trace, ""), text::draw(&trace, "", 80));
+        let Shown { unknown, damper, .. } = read::shown(&picture, 21);
+        assert_eq!(damper, (0..21).map(|column| (column, (0, 0))).collect::<BTreeMap<_, _>>());
+        assert!(in_characters.replace('\n', " ").contains("? not known in the drive."));
+        let fault = in_characters.lines().filter(|line| line.contains("fault |")).nth(1).unwrap();
+        assert_eq!(fault.matches('?').count(), 2 * unknown);
+        assert_eq!(picture.matches("url(#hatch)").count(), 2);
+        unknown
+    };
+    assert_eq!(shown(&said), 21);
+    said[9] = tick(Some(0));
+    assert_eq!(shown(&said), 10);
+    let own = of(&list);
+    assert!(!svg::draw(&own, "").contains("hatch") && !text::draw(&own, "", 80).contains('?'));
+}
+
+/// What has no row is said to have none, and only where it is met.
+#[test]
+fn what_is_not_shown() {
+    let rank = "A rank that is none of 0 to 6 is not shown.";
+    let bits = "Bits 6 and 7 of a status have no row.";
+    let tick = |rank, report| Said::Tick { position: 0, rank, motor: 0, report };
+    let read = |status| Said::Position { position: 0, percent: 0, status };
+    let cases = [
+        (tick(6, Some(63)), false, false),
+        (tick(7, None), true, false),
+        (tick(255, Some(63)), true, false),
+        (tick(0, Some(64)), false, true),
+        (read(63), false, false),
+        (read(128), false, true),
+    ];
+    for (said, of_rank, of_bits) in cases {
+        let trace = of_lines(&bytes(Event::Tick), &[said]);
+        let in_characters = text::draw(&trace, "", 400).replace('\n', " ");
+        for picture in [svg::draw(&trace, ""), in_characters] {
+            assert_eq!((picture.contains(rank), picture.contains(bits)), (of_rank, of_bits), "{said}");
+        }
+    }
+}
+
+/// The legend has the marks as they are drawn.
+#[test]
+fn a_legend_of_the_marks() {
+    for count in [1, 100, 101, 300] {
+        let each = [&bytes(Event::Tick)[..], &bytes(Event::Restart), &[0; 6]].concat();
+        let picture = svg::draw(&of(&each.repeat(count)), "");
+        let (_, rest) = picture.split_once("<g id=\"legend\">").unwrap();
+        let (legend, rest) = rest.split_once("</g>").unwrap();
+        let (_, refused) = rest.split_once("<g id=\"refused\">").unwrap();
+        let shape = refused.split('"').nth(1).unwrap().split_once('m').unwrap().1;
+        assert!(legend.contains(&format!("m{shape}\"/>")), "{shape} in {legend}");
+        let (_, restarts) = rest.split_once("<g id=\"restarts\" ").unwrap();
+        let style = restarts.split('>').next().unwrap();
+        assert!(legend.contains(&format!("{style}/>")), "{style} in {legend}");
+        assert_eq!(refused.split("</g>").next().unwrap().matches("<path").count(), count);
+    }
 }
 
 #[test]
@@ -474,6 +540,7 @@ fn the_command() {
     assert!(fs::read_to_string(&target).unwrap() == in_characters);
     let (status, help, _) = damper(&["--help"], b"");
     assert!(status == 0 && help.starts_with("usage: damper draw "));
+    assert!(help.lines().all(|line| line.len() <= 80));
     assert!(damper(&["-o", &list, &list], b"").2.contains("the output would be written over the input"));
     assert!(fs::read(&list).unwrap() == mixed());
 }

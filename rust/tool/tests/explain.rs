@@ -5,6 +5,7 @@ mod common;
 use common::{as_golden, documented, explained, golden, records_of};
 use damper::{Answer, Drive, Event, Outlook, Parameter, Rank, Refusal};
 use damper_check::gen::{self, Gen, Rng};
+use damper_tool::explain::speech::least_change;
 use damper_tool::explain::Explainer;
 use damper_tool::words;
 
@@ -75,10 +76,14 @@ fn golden_files_meet_all() {
         "above High, and rules toward",
         "below Low, and holds",
         "outranks it",
-        "s old and Timeout",
+        "The bus is not active: its setpoint is",
         "the motor driven the other way round",
         "and is there",
-        "as it was",
+        "OpenCloseDirection is 0 (the motor's directions not exchanged), as it was",
+        "and ActPosCOV, 1 %, takes 3, and the status was last reported as 32 (bus not active).",
+        "takes 6, the status was last reported as 2 (hand or tool active), and RepPer, 2 s, has passed.",
+        "away, and ActPosCOV, 2 %, takes 6; the status is as reported",
+        "the status is 16 (forced) and was last reported as 0 (nothing set)",
         "Now the bus rules",
         "there was no report since the restart",
     ] {
@@ -88,13 +93,14 @@ fn golden_files_meet_all() {
 
 /// A record is one line with the proved drive's answer, the reasons that hold and no others.
 fn check(line: &str, count: u64, bytes: &[u8], mode: u16, outlook: &Outlook, answer: Answer) {
-    let start = format!("{count:>5}  {:<22}  {:<15}  ", words::phrase(bytes, mode), answer.to_string());
+    let start = format!("{count:>5}  {:<28}  {:<15}  ", words::phrase(bytes, mode), answer.to_string());
     let sentence = line.strip_prefix(&start).unwrap_or_else(|| panic!("{line}: not after {start}"));
     assert!(sentence.ends_with('.') && !line.contains('\n'), "{line}");
     assert!(sentence.starts_with(|first: char| first.is_uppercase()), "{line}");
     let says = |part: &str| sentence.contains(part);
     if let Answer::Refused(refusal) = answer {
-        assert!(says(&format!("Refused by {}: {refusal}", refusal.number())), "{line}");
+        assert!(says(&format!("Refused by {}: {refusal} (", refusal.number())), "{line}");
+        assert!(!says("()") && says("); nothing changes."), "{line}");
     }
     let Answer::Tick { position, rank, report, .. } = answer else {
         assert!(!says("Reported") && !says("because") && !says("The damper"), "{line}");
@@ -105,8 +111,10 @@ fn check(line: &str, count: u64, bytes: &[u8], mode: u16, outlook: &Outlook, ans
     assert_eq!(says("Nothing to report: "), !any, "{line}");
     assert_eq!(says("Not reported, although "), any && !outlook.waited, "{line}");
     assert_eq!(says("there was no report"), outlook.first, "{line}");
-    assert_eq!(says("%) away"), outlook.changed, "{line}");
-    assert_eq!(says("the last reported status was"), outlook.differs, "{line}");
+    assert_eq!(says(" away and ActPosCOV"), outlook.changed, "{line}");
+    assert_eq!(says(" was last reported as "), outlook.differs, "{line}");
+    let now = format!("the status is {} (", outlook.status.0);
+    assert_eq!(says(&now), outlook.differs && report.is_none(), "{line}");
     assert_eq!(says("s, has passed"), outlook.period, "{line}");
     assert!(says(&format!("{position} (")), "{line}");
     let ruler = match rank {
@@ -199,6 +207,8 @@ mod binary {
         };
         assert_eq!(status(&[]), (Some(0), false, String::new()));
         assert_eq!(status(&["--help"]), (Some(0), true, String::new()));
+        let help = damper().args(["explain", "--help"]).output().unwrap().stdout;
+        assert!(String::from_utf8(help).unwrap().lines().all(|line| line.chars().count() <= 80));
         let (code, _, text) = status(&["/nonexistent/records"]);
         assert_eq!((code, text.starts_with("damper: /nonexistent/records: ")), (Some(2), true), "{text}");
         let (code, _, text) = status(&["/"]);
@@ -229,5 +239,68 @@ fn numbers_of_refusals() {
     let line = explainer.line(&bytes(Event::WriteParameter(Parameter::MinRepTime, 0)));
     assert!(line.contains(&format!("Refused by 10: {}", Refusal::Range)));
     assert!(line.contains("(MinRepTime takes 1 to 3600 s)"));
-    assert!(explainer.line(&[]).contains("(0 bytes)"));
+    assert!(explainer.line(&[]).contains("(it has 0)"));
+}
+
+/// The unused bytes that are named are those that are not 0, of every kind.
+#[test]
+fn unused_bytes() {
+    let used = [0, 1, 3, 1, 2, 1, 1, 3, 0, 0, 1];
+    for (kind, used) in (1..).zip(used) {
+        for data in [[0, 0, 0], [1, 2, 3], [0, 0, 3], [0, 2, 0], [1, 0, 0], [1, 0, 3]] {
+            let record = [&[0x5A, 0xC3, kind][..], &data].concat();
+            let line = Explainer::fresh().line(&record);
+            let odd = ["a", "b", "c"].iter().zip(data).skip(used).filter(|(_, byte)| *byte != 0);
+            let odd: Vec<_> = odd.map(|(name, byte)| format!("{name} is {byte}")).collect();
+            let said =
+                line.split_once("an unused byte is not 0 (").and_then(|(_, rest)| rest.split_once(')'));
+            let said = said.map_or(String::new(), |(said, _)| said.replace(" and ", ", "));
+            assert_eq!(said, odd.join(", "), "{line}");
+        }
+    }
+}
+
+/// As document 01 has it: 100 × the distance is at least 255 × ActPosCOV.
+#[test]
+fn least_changes() {
+    for percent in 1..=100 {
+        assert_eq!(u16::from(least_change(percent)), (255 * percent).div_ceil(100));
+    }
+}
+
+/// An age that is counted no further.
+#[test]
+fn oldest_setpoint() {
+    let mut explainer = Explainer::fresh();
+    let mut line = |event: Event| explainer.line(&event.to_bytes().unwrap());
+    line(Event::Setpoint(9));
+    let lines: Vec<_> = (1..=65_536).map(|_| line(Event::Tick)).collect();
+    let says = |age: usize, part: &str| assert!(lines[age - 1].contains(part), "{}", lines[age - 1]);
+    says(1_860, "The bus holds 9 ");
+    says(1_861, " its setpoint is 1861 s old, and Timeout is 1860 s.");
+    says(65_534, " its setpoint is 65534 s old, and Timeout is 1860 s.");
+    says(65_535, " its setpoint is 65535 s old or more, and Timeout is 1860 s.");
+    says(65_536, " its setpoint is 65535 s old or more, and Timeout is 1860 s.");
+}
+
+/// Who asks and does not rule is outranked.
+#[test]
+fn outranked() {
+    let mut gen = Gen::new(19);
+    for _ in 0..40 {
+        let (mut explainer, mut drive) = (Explainer::fresh(), Drive::fresh());
+        for _ in 0..gen.list() {
+            let bytes = gen.event(&drive);
+            let bytes = bytes.as_slice();
+            let line = explainer.line(bytes);
+            drive.step(bytes);
+            let asks = ["The bus asks", "The override asks", "The hand asks", "Forcing asks"];
+            let ranks = [Rank::Bus, Rank::Tool, Rank::Hand, Rank::Forcing];
+            let own = asks.iter().zip(ranks).find(|(asks, _)| line.contains(*asks));
+            let Some((_, own)) = own.filter(|_| line.contains("  ok  ")) else { continue };
+            let rank = drive.outlook().unwrap().rank;
+            assert!(rank >= own, "{line}");
+            assert_eq!(line.contains("outranks it"), rank > own, "{line}");
+        }
+    }
 }

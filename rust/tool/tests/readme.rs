@@ -16,6 +16,8 @@ fn one_scenario() {
         assert!(readme.contains(&format!("```text\n{text}```\n")), "not in the README:\n{text}");
     }
     assert!(readme.contains("(examples/job.svg)"));
-    let trace = draw::proved(input("records", &records)).unwrap();
-    as_kept(&repository("examples/job.svg"), &draw::svg::draw(&trace, "Damper and log"));
+    let trace = draw::proved(&mut input("records", &records)).unwrap();
+    // As `damper draw job.bin -o job.svg` writes it.
+    let heading = draw::caption::heading(Some("job.bin".as_ref()), None);
+    as_kept(&repository("examples/job.svg"), &draw::svg::draw(&trace, &heading));
 }

@@ -1,48 +1,22 @@
 //! Words to bytes to words, and bytes to words to bytes; no input makes either panic.
 
+mod common;
+
+use common::{input, written};
 use damper::{Drive, Parameter};
 use damper_check::gen::{self, Gen, Rng};
 use damper_tool::failure::Failure;
-use damper_tool::input::Input;
-use damper_tool::output::Output;
 use damper_tool::scenario::Scenario;
 use damper_tool::words;
-use std::cell::RefCell;
-use std::io::{self, Cursor, Write};
-use std::rc::Rc;
 use std::str;
 
-/// What is written, kept.
-#[derive(Clone, Default)]
-struct Kept(Rc<RefCell<Vec<u8>>>);
-
-impl Write for Kept {
-    fn write(&mut self, bytes: &[u8]) -> io::Result<usize> {
-        self.0.borrow_mut().write(bytes)
-    }
-
-    fn flush(&mut self) -> io::Result<()> {
-        Ok(())
-    }
-}
-
-impl Kept {
-    /// What a command writes.
-    fn of(write: impl FnOnce(&mut Output) -> Result<(), Failure>) -> Vec<u8> {
-        let kept = Kept::default();
-        write(&mut Output::new("kept", kept.clone())).unwrap();
-        kept.0.take()
-    }
-}
-
 fn bytes_of(text: &[u8]) -> Result<Vec<u8>, Failure> {
-    let scenario = Scenario::read(Input::new("text", Cursor::new(text.to_vec())))?;
-    Ok(Kept::of(|output| scenario.write(output)))
+    let scenario = Scenario::read(input("text", text))?;
+    Ok(written(|output| scenario.write(output)))
 }
 
 fn words_of(bytes: &[u8]) -> String {
-    let mut input = Input::new("records", Cursor::new(bytes.to_vec()));
-    String::from_utf8(Kept::of(|output| words::write(&mut input, output))).unwrap()
+    String::from_utf8(written(|output| words::write(&mut input("records", bytes), output))).unwrap()
 }
 
 /// Any bytes are words that make them again, and these words are those of their bytes.

@@ -64,13 +64,36 @@ impl Sentence {
     }
 }
 
-/// What a drive said to an event record, and what document 01's drive makes of it.
-pub struct Heard {
+/// In which way a sentence fails: records of one stretch fail in the same way.
+#[derive(Clone, Copy, PartialEq, Eq, Debug)]
+pub enum Way {
+    /// There is no other.
+    Only,
+    /// Whether there is a report.
+    Due(bool),
+    /// Whether the position differs, and whether the status.
+    Content(bool, bool),
+    /// The numbers by which it is refused and should be.
+    Refusal(Option<u8>, Option<u8>),
+    /// The forms of both lines, and in which of their numbers they differ.
+    Answer {
+        forms: (u8, u8),
+        differ: [bool; 4],
+        /// The numbers of refusals.
+        refused: (Option<u8>, Option<u8>),
+        /// The one that is read.
+        parameter: Option<Parameter>,
+    },
+}
+
+/// What a drive said to an event record, and what the proved drive makes of it.
+pub struct Heard<'r> {
+    pub bytes: &'r [u8],
     pub said: Said,
     pub findings: Findings,
     /// Before the record.
     pub audit: Audit,
-    /// Document 01's drive and its answer, had it sent the reports so far.
+    /// The proved drive and its answer, had it sent the reports so far.
     pub drive: Drive,
     pub answer: Answer,
     /// Accepted ticks, a present one counted.
@@ -79,7 +102,7 @@ pub struct Heard {
     pub restarted: bool,
 }
 
-impl Heard {
+impl Heard<'_> {
     /// An accepted tick.
     pub fn is_tick(&self) -> bool {
         matches!(self.answer, Answer::Tick { .. })
@@ -99,16 +122,27 @@ impl Heard {
         }
     }
 
-    /// In which way it fails: records of one stretch fail in the same way.
-    pub fn way(&self, sentence: Sentence) -> u8 {
+    /// In which way it fails.
+    pub fn way(&self, sentence: Sentence) -> Way {
+        let (said, due) = (self.said, self.answer.said());
+        let refused = (number(said), number(due));
         match sentence {
-            Sentence::Due => self.is_report().into(),
-            Sentence::Refusal => match (self.said, self.answer) {
-                (Said::Refused(_), Answer::Refused(_)) => 0,
-                (Said::Refused(_), _) => 1,
-                _ => 2,
+            Sentence::Due => Way::Due(self.is_report()),
+            Sentence::Content => {
+                let (position, status) = self.left();
+                Way::Content(self.position() != position, self.reported() != status)
+            }
+            Sentence::Refusal => Way::Refusal(refused.0, refused.1),
+            Sentence::Answer => Way::Answer {
+                forms: (said.to_parts().0, due.to_parts().0),
+                differ: differ(said, due),
+                refused,
+                parameter: match Event::read(self.bytes) {
+                    Ok(Event::ReadParameter(parameter)) => Some(parameter),
+                    _ => None,
+                },
             },
-            _ => 0,
+            _ => Way::Only,
         }
     }
 
@@ -132,7 +166,7 @@ impl Heard {
             Sentence::Waiting => format!(
                 "MinRepTime, {}, passes without report or restart, and by the list leaves {}, although {}",
                 many(self.min_rep_time(), "tick"),
-                self.left(),
+                told(self.left()),
                 joined(&differences(self.audit.drive(), &self.outlook(), self.restarted))
             ),
             Sentence::Moving => self.moving(),
@@ -142,9 +176,9 @@ impl Heard {
                 format!("the damper {shown} shown at {position}, and by the list it is at {due}")
             }
             Sentence::Content => {
-                let said = self.report().map_or(0, |(_, status)| status);
-                let said = format!("position {}, status {}", self.position(), status(Status(said)));
-                format!("the report gives {said}, and by the list there are {}", self.left())
+                let (said, left) = (told((self.position(), self.reported())), told(self.left()));
+                let what = if self.is_tick() { "tick" } else { "event" };
+                format!("the report gives {said}, and by the list the {what} leaves {left}")
             }
             Sentence::OtherMove => {
                 let (from, to) = (place(self.audit.seen()), place(self.position()));
@@ -154,7 +188,7 @@ impl Heard {
             Sentence::Due => self.due(),
             Sentence::Refusal => self.refusal(),
             Sentence::Answer => {
-                format!("`{}`, and document 01's drive answers `{}`", self.said, self.answer)
+                format!("`{}`, and the proved drive answers `{}`", self.said, self.answer)
             }
         }
     }
@@ -180,7 +214,7 @@ impl Heard {
             let reasons = joined(&reasons(drive, &outlook, self.restarted));
             return format!(
                 "by the list a report of {} is due, because {reasons}, and none comes",
-                self.left()
+                told(self.left())
             );
         }
         let none = match outlook.waited {
@@ -199,22 +233,20 @@ impl Heard {
             Answer::Refused(refusal) => format!("refuses it by {} ({refusal})", refusal.number()),
             _ => "carries it out".to_string(),
         };
-        format!("{said}, and document 01's drive {due}")
+        format!("{said}, and the proved drive {due}")
     }
 
-    /// What a tick goes by that finds document 01's drive so.
+    /// What a tick goes by that finds the proved drive so.
     fn outlook(&self) -> Outlook {
         outlook(self.audit.drive())
     }
 
     /// Position and status that the record leaves.
-    fn left(&self) -> String {
+    fn left(&self) -> (u8, u8) {
         let mut read = self.drive;
         match read.give(Event::ReadPosition) {
-            Answer::Position { position, status: left, .. } => {
-                format!("position {position}, status {}", status(left))
-            }
-            answer => answer.to_string(),
+            Answer::Position { position, status, .. } => (position, status.0),
+            answer => unreachable!("a read is answered by a position, not by `{answer}`"),
         }
     }
 
@@ -234,6 +266,11 @@ impl Heard {
         }
     }
 
+    /// The status that is reported.
+    fn reported(&self) -> u8 {
+        self.report().map_or(0, |(_, status)| status)
+    }
+
     /// The position that is said.
     fn shown(&self) -> Option<u8> {
         match self.said {
@@ -250,6 +287,34 @@ impl Heard {
 
 fn outlook(drive: &Drive) -> Outlook {
     drive.outlook().expect("a drive from fresh is well formed")
+}
+
+/// Position and status.
+fn told((position, bits): (u8, u8)) -> String {
+    format!("position {position}, status {}", status(Status(bits)))
+}
+
+/// By which it is refused.
+fn number(said: Said) -> Option<u8> {
+    match said {
+        Said::Refused(number) => Some(number),
+        _ => None,
+    }
+}
+
+/// In which of their numbers two lines of one form differ; two ticks are of one form here.
+fn differ(said: Said, due: Said) -> [bool; 4] {
+    match (said, due) {
+        (
+            Said::Tick { position: p, rank: r, motor: m, report: s },
+            Said::Tick { position, rank, motor, report },
+        ) => [p != position, r != rank, m != motor, s != report],
+        (
+            Said::Position { position: p, percent: c, status: s },
+            Said::Position { position, percent, status },
+        ) => [p != position, c != percent, s != status, false],
+        _ => [true; 4],
+    }
 }
 
 /// The number of a refusal, which may be none of document 01's.

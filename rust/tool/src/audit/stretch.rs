@@ -1,6 +1,6 @@
 //! Findings in a row as one line.
 
-use super::sentence::{Heard, Sentence};
+use super::sentence::{Heard, Sentence, Way};
 use crate::failure::Failure;
 use crate::output::Output;
 use std::collections::VecDeque;
@@ -9,7 +9,7 @@ use std::fmt;
 /// A sentence that fails at records in a row, of those at which it is judged, in the same way.
 struct Stretch {
     sentence: Sentence,
-    way: u8,
+    way: Way,
     open: bool,
     /// The first and the last record, and how many of those between fail.
     records: (u64, u64),

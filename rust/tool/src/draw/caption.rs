@@ -1,5 +1,6 @@
 //! The words of a picture.
 
+use crate::count::{counted, digits};
 use crate::draw::trace::{Column, Refused, Report, Source, Trace};
 use crate::percent::percent_of;
 use damper::Refusal;
@@ -57,14 +58,18 @@ pub fn distance(trace: &Trace) -> String {
     }
 }
 
-/// What a reader must know of columns of so many ticks and of a drive known by its lines.
-pub fn remarks(trace: &Trace, stretch: u64) -> Vec<String> {
-    let mut remarks = Vec::new();
-    if stretch > 1 {
-        remarks.push(format!(
-            "A column is {}: damper and log from their least to their greatest, and each report.",
+/// What a reader must know of columns of so many ticks, of marks that several reports share as told here, and
+/// of a drive known by its lines.
+pub fn remarks(trace: &Trace, stretch: u64, shared: Option<&str>) -> Vec<String> {
+    let mut remarks = vec![match stretch {
+        1 => "A column is a tick and what follows it; a status bit set in part of it fills it.".to_string(),
+        _ => format!(
+            "A column is {}: damper and log from least to greatest, and each source and status bit found in it.",
             counted(stretch, "tick"),
-        ));
+        ),
+    }];
+    if let Some(place) = shared {
+        remarks.push(format!("Every report has a mark, which several {place} share."));
     }
     if trace.source() == Source::Lines {
         remarks.push(
@@ -72,6 +77,11 @@ pub fn remarks(trace: &Trace, stretch: u64) -> Vec<String> {
                 .to_string(),
         );
     }
+    let unshown = [
+        (trace.other_rank, "A rank that is none of 0 to 6 is not shown."),
+        (trace.other_bit, "Bits 6 and 7 of a status have no row."),
+    ];
+    remarks.extend(unshown.into_iter().filter(|(met, _)| *met).map(|(_, remark)| remark.to_string()));
     remarks
 }
 
@@ -127,23 +137,6 @@ pub fn status_words(status: u8) -> String {
     }
 }
 
-fn counted(count: u64, what: &str) -> String {
-    format!("{} {what}{}", digits(count), if count == 1 { "" } else { "s" })
-}
-
-/// A number with a comma before each three digits.
-pub fn digits(number: u64) -> String {
-    let plain = number.to_string();
-    let mut text = String::new();
-    for (place, digit) in plain.chars().enumerate() {
-        if place > 0 && (plain.len() - place) % 3 == 0 {
-            text.push(',');
-        }
-        text.push(digit);
-    }
-    text
-}
-
 /// The step between the labels of an axis from 0 to `end`: 1, 2 or 5 times a power of ten, and at most so
 /// many steps.
 pub fn round_step(end: u64, most: u64) -> u64 {
@@ -161,14 +154,6 @@ pub fn round_step(end: u64, most: u64) -> u64 {
 #[cfg(test)]
 mod tests {
     use super::*;
-
-    #[test]
-    fn numbers() {
-        let numbers = [0, 999, 1000, 65535, 1_000_000, u64::MAX];
-        let texts = ["0", "999", "1,000", "65,535", "1,000,000", "18,446,744,073,709,551,615"];
-        assert_eq!(numbers.map(digits), texts);
-        assert_eq!(counted(1, "tick") + &counted(2, "tick"), "1 tick2 ticks");
-    }
 
     #[test]
     fn steps() {

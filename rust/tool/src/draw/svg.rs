@@ -8,14 +8,16 @@
 //! - `refused`, `restarts`: a path for each column that has any, which starts in the middle of that column.
 //! - `rank-N`, `status-N`, `reported-N`: a path in units of a column, where each run of columns that have the
 //!   rank, or the bit in the drive or in the log, is an `h` of its length.
+//! - `unknown`: over the columns in which the drive's status is not known at some time, which are the first.
 //! - `damper`, `log`: a line of steps or, where a column has several positions, the outline of a surface from
 //!   their least, to the right, to their greatest, to the left.
 //!
 //! The size is bounded for any input. A column has at most these bytes: 772 of reports (every second
 //! position, six bytes each), 90 of the outlines of damper, log and the space between (two edges of 15),
-//! 15 of the distance, 57 of nineteen rows (every second column, six bytes each), 216 of a refused mark,
-//! 123 of a restart. That is 1273, with 768 columns 977,664, and less than 12,000 are there once.
+//! 15 of the distance, 57 of nineteen rows (every second column, six bytes each), 218 of a refused mark,
+//! 123 of a restart. That is 1275, with 768 columns 979,200, and less than 12,000 are there once.
 
+use crate::count::digits;
 use crate::draw::caption::{self, When, STATUS_BITS};
 use crate::draw::trace::{Column, Span, Trace, KEPT_REFUSALS};
 use damper::Rank;
@@ -47,11 +49,13 @@ const RANKS_BOTTOM: f64 = RANKS_TOP + 7.0 * ROW;
 const STATUS_TOP: f64 = RANKS_BOTTOM + 32.0;
 const STATUS_BOTTOM: f64 = STATUS_TOP + 6.0 * ROW;
 
-const HEIGHT: f64 = STATUS_BOTTOM + 74.0;
+/// The remarks below them, a line each.
+const REMARKS_TOP: f64 = STATUS_BOTTOM + 46.0;
+const REMARK: f64 = 18.0;
 
 /// Blue and vermilion are told apart by readers who see few colours, and without any: the damper is broad and
 /// light, the log thin and dark.
-const DAMPER: &str = "#3388BF";
+const DAMPER: &str = "#4A9BD0";
 const DAMPER_LIGHT: &str = "#8CC1E3";
 const LOG: &str = "#B03A00";
 const REPORT: &str = "#7A2600";
@@ -59,6 +63,7 @@ const BETWEEN: &str = "#F4E08C";
 const INK: &str = "#1A1A1A";
 const FAINT: &str = "#5A5A5A";
 const GRID: &str = "#DADADA";
+const UNKNOWN: &str = "#B0B0B0";
 
 /// Marks of one kind that have room to be broad, and to tell several events each.
 const FEW: usize = 100;
@@ -72,8 +77,11 @@ pub fn draw(trace: &Trace, heading: &str) -> String {
     let thin = |span: Option<Span>| span.is_none_or(|span| span.least == span.greatest);
     let lines = columns.iter().all(|column| thin(column.damper) && thin(column.log));
     let mut sheet = Sheet { trace, columns, stretch, lines, out: String::new() };
-    sheet.opening(heading);
+    let shared = trace.each_report().is_none().then_some("of one position in one column");
+    let remarks = caption::remarks(trace, stretch, shared);
+    sheet.opening(heading, REMARKS_TOP + REMARK * remarks.len() as f64 - 8.0);
     sheet.legend();
+    sheet.unknown();
     sheet.grid();
     sheet.restarts();
     sheet.curves();
@@ -82,7 +90,9 @@ pub fn draw(trace: &Trace, heading: &str) -> String {
     sheet.distance();
     sheet.ranks();
     sheet.status();
-    sheet.remarks();
+    for (remark, line) in remarks.iter().zip(0..) {
+        sheet.text(24.0, REMARKS_TOP + REMARK * f64::from(line), "start", remark);
+    }
     sheet.put(format_args!("</svg>\n"));
     sheet.out
 }
@@ -126,8 +136,8 @@ impl Sheet<'_> {
         LEFT + SPAN * tick as f64 / self.stretch as f64 / self.columns.len() as f64
     }
 
-    fn opening(&mut self, heading: &str) {
-        let (width, height) = (Number(WIDTH), Number(HEIGHT));
+    fn opening(&mut self, heading: &str, height: f64) {
+        let (width, height) = (Number(WIDTH), Number(height));
         let (counts, distance) = (caption::counts(self.trace), caption::distance(self.trace));
         let title = escaped(heading);
         self.put(format_args!(
@@ -154,36 +164,77 @@ impl Sheet<'_> {
                 format!("fill=\"none\" stroke=\"{LOG}\" stroke-width=\"1.8\" stroke-dasharray=\"6 2.5\""),
             ),
             false => (
-                format!("fill=\"{DAMPER_LIGHT}\" stroke=\"{DAMPER}\" stroke-width=\"1.6\""),
-                format!("fill=\"{LOG}\" fill-opacity=\"0.15\" stroke=\"{LOG}\" stroke-width=\"0.7\""),
+                format!("fill=\"{DAMPER_LIGHT}\" stroke=\"{DAMPER}\" stroke-width=\"3.6\""),
+                format!(
+                    "fill=\"{LOG}\" fill-opacity=\"0.15\" stroke=\"{LOG}\" stroke-width=\"1.2\" \
+                     stroke-dasharray=\"4 5\""
+                ),
             ),
         }
     }
 
     fn legend(&mut self) {
         let (damper, log) = self.styles();
-        let sample = if self.lines { "73h30" } else { "68h30v10h-30z" };
+        let sample = if self.lines { "73h30" } else { "73h12v5h18v-10h-18v5z" };
+        let report = match self.radius() {
+            Some(radius) => format!("<circle cx=\"467\" cy=\"73\" r=\"{radius}\" fill=\"{REPORT}\"/>"),
+            None => {
+                let width = Number(SPAN / self.columns.len() as f64);
+                format!("<path d=\"M467 68v10\" stroke=\"{REPORT}\" stroke-width=\"{width}\"/>")
+            }
+        };
+        let (_, refused) = self.refusals();
+        let (restarts, restart) = self.restarted();
+        let line = if restarts.len() <= FEW { "86v16" } else { "91v7" };
         self.put(format_args!(
             "<g id=\"legend\">\n\
              <path {damper} d=\"M24 {sample}\"/>\n\
              <path {log} d=\"M196 {sample}\"/>\n\
-             <circle cx=\"467\" cy=\"73\" r=\"3.2\" fill=\"{REPORT}\"/>\n\
+             {report}\n\
              <path d=\"M720 67h30v12h-30z\" fill=\"{BETWEEN}\"/>\n\
-             <path d=\"M39 90{TRIANGLE}\"/>\n\
-             <path d=\"M211 86v16\" stroke=\"{FAINT}\" stroke-width=\"1.4\" stroke-dasharray=\"4 3\"/>\n\
+             <path d=\"M39 90{refused}\"/>\n\
+             <path d=\"M211 {line}\" {restart}/>\n\
              <path d=\"M452 94h30\" stroke=\"{DAMPER_LIGHT}\" stroke-width=\"11\"/>\n\
-             <path d=\"M720 94h30\" stroke=\"{LOG}\" stroke-width=\"3.5\"/>\n\
-             </g>\n",
+             <path d=\"M720 94h30\" stroke=\"{LOG}\" stroke-width=\"3.5\"/>\n",
         ));
-        let texts = [
-            ["the damper", "the log: the last report, held", "a report", "between damper and log"],
-            ["refused events", "restart", "ruling source, status of the drive", "status in the log"],
+        let mut texts = vec![
+            (62.0, 77.5, "the damper"),
+            (234.0, 77.5, "the log: the last report, held"),
+            (490.0, 77.5, "a report"),
+            (758.0, 77.5, "between damper and log"),
+            (62.0, 98.5, "refused events"),
+            (234.0, 98.5, "restart"),
+            (490.0, 98.5, "ruling source, status of the drive"),
+            (758.0, 98.5, "status in the log"),
         ];
-        for (texts, y) in texts.into_iter().zip([77.5, 98.5]) {
-            for (text, x) in texts.into_iter().zip([62.0, 234.0, 490.0, 758.0]) {
-                self.text(x, y, "start", text);
-            }
+        if self.unknown_columns() > 0 {
+            self.put(format_args!("<path d=\"M930 88h30v12h-30z\" fill=\"url(#hatch)\"/>\n"));
+            texts.push((968.0, 98.5, "status of the drive not known"));
         }
+        self.put(format_args!("</g>\n"));
+        for (x, y, text) in texts {
+            self.text(x, y, "start", text);
+        }
+    }
+
+    fn unknown_columns(&self) -> usize {
+        self.columns.iter().take_while(|column| column.unknown).count()
+    }
+
+    /// Behind the bits, where no bit may be set or any.
+    fn unknown(&mut self) {
+        let end = self.unknown_columns();
+        if end == 0 {
+            return;
+        }
+        let (x, y) = (Number(LEFT), Number(STATUS_TOP));
+        let (width, height) = (Number(self.x(end) - LEFT), Number(STATUS_BOTTOM - STATUS_TOP));
+        self.put(format_args!(
+            "<pattern id=\"hatch\" width=\"5\" height=\"5\" patternUnits=\"userSpaceOnUse\">\
+             <path d=\"M-1 1l2 -2M0 5l5 -5M4 6l2 -2\" stroke=\"{UNKNOWN}\"/></pattern>\n\
+             <rect id=\"unknown\" x=\"{x}\" y=\"{y}\" width=\"{width}\" height=\"{height}\" \
+             fill=\"url(#hatch)\"/>\n",
+        ));
     }
 
     /// Axes, and lines of the same time through everything.
@@ -228,7 +279,7 @@ impl Sheet<'_> {
         }
         self.put(format_args!("M{left} {t}V{b}M{right} {t}V{b}\"/>\n", t = Number(TOP), b = Number(BOTTOM)));
         for (tick, x) in labels {
-            self.text(x, STATUS_BOTTOM + 19.0, "middle", &caption::digits(tick));
+            self.text(x, STATUS_BOTTOM + 19.0, "middle", &digits(tick));
         }
         self.text(LEFT - 14.0, STATUS_BOTTOM + 19.0, "end", "ticks");
         for quarter in 0..=4 {
@@ -243,22 +294,35 @@ impl Sheet<'_> {
         self.put(format_args!("</g>\n"));
     }
 
-    /// A dashed line from above the chart to its bottom, and on through the bands while there are few.
+    /// A dashed line from above the chart through the bands or, where there are many, only above it.
     fn restarts(&mut self) {
-        let marked = self.marked(&|column| column.restarts > 0);
-        let few = marked.len() <= FEW;
-        let width = if few { 1.4 } else { 0.7 };
-        self.put(format_args!(
-            "<g id=\"restarts\" fill=\"none\" stroke=\"{FAINT}\" stroke-width=\"{width}\" \
-             stroke-dasharray=\"4 3\">\n",
-        ));
-        let (top, bottom) = (Number(TOP - 8.0), Number(if few { STATUS_BOTTOM } else { BOTTOM }));
+        let (marked, style) = self.restarted();
+        let bottom = if marked.len() <= FEW { STATUS_BOTTOM } else { TOP - 1.0 };
+        let (top, bottom) = (Number(TOP - 8.0), Number(bottom));
+        self.put(format_args!("<g id=\"restarts\" {style}>\n"));
         for at in marked {
             let x = Number(self.middle(at));
             let title = escaped(&caption::restarted(&self.columns[at], self.when(at)));
             self.put(format_args!("<path d=\"M{x} {top}V{bottom}\"><title>{title}</title></path>\n"));
         }
         self.put(format_args!("</g>\n"));
+    }
+
+    /// Columns with restarts, and how a mark looks.
+    fn restarted(&self) -> (Vec<usize>, String) {
+        let marked = self.marked(&|column| column.restarts > 0);
+        let style = match marked.len() <= FEW {
+            true => "stroke-width=\"1.4\" stroke-dasharray=\"4 3\"",
+            false => "stroke-width=\"0.9\"",
+        };
+        (marked, format!("fill=\"none\" stroke=\"{FAINT}\" {style}"))
+    }
+
+    /// Columns with refused events, and how a mark looks.
+    fn refusals(&self) -> (Vec<usize>, &'static str) {
+        let marked = self.marked(&|column| column.refused > 0);
+        let shape = if marked.len() <= FEW { TRIANGLE } else { BAR };
+        (marked, shape)
     }
 
     /// The time of a column's events.
@@ -310,12 +374,18 @@ impl Sheet<'_> {
         self.put(format_args!("\"/>\n"));
     }
 
-    fn reports(&mut self) {
-        let Some(reports) = self.trace.each_report() else { return self.many_reports() };
-        let radius = match reports.len() {
+    /// Of the circles, while there are not too many reports.
+    fn radius(&self) -> Option<f64> {
+        Some(match self.trace.each_report()?.len() {
             0..=150 => 3.2,
             151..=600 => 2.4,
             _ => 1.8,
+        })
+    }
+
+    fn reports(&mut self) {
+        let (Some(reports), Some(radius)) = (self.trace.each_report(), self.radius()) else {
+            return self.many_reports();
         };
         self.put(format_args!("<g id=\"reports\" fill=\"{REPORT}\">\n"));
         for report in reports {
@@ -353,11 +423,8 @@ impl Sheet<'_> {
 
     /// A triangle above the chart, or a bar as narrow as a column where there are many.
     fn refused(&mut self) {
-        let marked = self.marked(&|column| column.refused > 0);
-        let (most, shape) = match marked.len() <= FEW {
-            true => (KEPT_REFUSALS, TRIANGLE),
-            false => (1, BAR),
-        };
+        let (marked, shape) = self.refusals();
+        let most = if marked.len() <= FEW { KEPT_REFUSALS } else { 1 };
         self.put(format_args!("<g id=\"refused\">\n"));
         let top = Number(TOP - 19.0);
         for at in marked {
@@ -371,6 +438,7 @@ impl Sheet<'_> {
     /// The greatest distance of each column, under a scale of its own.
     fn distance(&mut self) {
         self.bold(24.0, DISTANCE_TOP + 9.0, "distance");
+        self.text(24.0, DISTANCE_TOP + 25.0, "start", "in positions");
         let greatest = self.trace.greatest.map_or(0, |greatest| greatest.positions);
         let (step, most) = distance_scale(greatest);
         let height = |distance: u8| DISTANCE_BOTTOM - DISTANCE_HEIGHT * f64::from(distance) / f64::from(most);
@@ -450,12 +518,6 @@ impl Sheet<'_> {
             at += run.len();
         }
         self.put(format_args!("\"/>\n"));
-    }
-
-    fn remarks(&mut self) {
-        for (line, remark) in caption::remarks(self.trace, self.stretch).iter().enumerate() {
-            self.text(24.0, STATUS_BOTTOM + 46.0 + 18.0 * line as f64, "start", remark);
-        }
     }
 }
 

@@ -1,5 +1,6 @@
 //! The picture in characters.
 
+use crate::count::digits;
 use crate::draw::caption::{self, STATUS_BITS};
 use crate::draw::trace::{Column, Span, Trace};
 use damper::Rank;
@@ -36,6 +37,7 @@ pub fn draw(trace: &Trace, heading: &str, width: usize) -> String {
     sheet.edge();
     for (bit, name) in STATUS_BITS.into_iter().enumerate() {
         sheet.row(name, &|column, _| match (column.status >> bit & 1, column.reported >> bit & 1) {
+            (0, 0) if column.unknown => '?',
             (0, 0) => ' ',
             (_, 0) => 'd',
             (0, _) => 'l',
@@ -44,17 +46,16 @@ pub fn draw(trace: &Trace, heading: &str, width: usize) -> String {
     }
     sheet.axis(trace.ticks, stretch);
     sheet.out.push('\n');
-    let legend = "Chart: . damper, - log (the last report, held), # both, o report; ! refused, ^ restart. \
-                  Distance: in tens of positions, . below ten, + a hundred or more. \
-                  Source: # rules. Status: d in the drive only, l in the log only, # in both.";
-    sheet.wrapped(
-        &[legend.to_string()]
-            .into_iter()
-            .chain(caption::remarks(trace, stretch))
-            .collect::<Vec<_>>()
-            .join(" "),
-        width,
+    let unknown = sheet.columns.iter().any(|column| column.unknown);
+    let legend = format!(
+        "Chart: . damper, - log (the last report, held), # both, o report; ! refused, ^ restart. \
+         Distance: in tens of positions, . below ten, + a hundred or more. \
+         Source: # rules. Status: d in the drive only, l in the log only, # in both{}.",
+        if unknown { ", ? not known in the drive" } else { "" },
     );
+    let shared = (stretch > 1).then_some("in one column and row");
+    let remarks = [vec![legend], caption::remarks(trace, stretch, shared)].concat();
+    sheet.wrapped(&remarks.join(" "), width);
     sheet.out
 }
 
@@ -116,7 +117,7 @@ impl Sheet {
         for tick in (0..=ticks / step).map(|count| count * step) {
             let at = (tick / stretch) as usize * self.broad;
             line.replace_range(at..at + 1, "+");
-            let label = caption::digits(tick);
+            let label = digits(tick);
             let start = at.min((length + 1).saturating_sub(label.len()));
             if labels.is_empty() || labels.len() < start {
                 labels = format!("{labels:start$}{label}");

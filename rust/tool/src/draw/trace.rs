@@ -4,7 +4,7 @@
 //! Time is the count of accepted ticks so far. What a tick leaves belongs to its own time, and so does what
 //! follows it up to the next tick; time 0 is before the first.
 
-use damper::{Answer, Drive, Event, Said};
+use damper::{Answer, Drive, Event, Rank, Said};
 
 /// Columns that are held at most; then two and two become one.
 const HELD: usize = 8 * 768;
@@ -30,6 +30,9 @@ pub struct Trace {
     pub refused: u64,
     pub restarts: u64,
     pub greatest: Option<Distance>,
+    /// Whether a rank above 6 was met, and whether a status with bit 6 or 7.
+    pub other_rank: bool,
+    pub other_bit: bool,
 }
 
 /// Which drive is drawn.
@@ -42,9 +45,9 @@ pub enum Source {
 }
 
 /// What is known at a time: of the damper, and by the log.
-#[derive(Clone, Copy, Default)]
+#[derive(Clone, Copy)]
 struct Now {
-    position: Option<u8>,
+    position: u8,
     status: Option<u8>,
     log: Option<(u8, u8)>,
 }
@@ -77,6 +80,8 @@ pub struct Column {
     pub ranks: u8,
     /// The bits that the drive's status has at some time.
     pub status: u8,
+    /// Whether that status is not known at some time.
+    pub unknown: bool,
     /// The bits that the status last reported has at some time.
     pub reported: u8,
     pub refused: u64,
@@ -104,15 +109,11 @@ pub struct Refused {
 }
 
 impl Trace {
-    /// Of a drive that is fresh. Where another's starts is not known before its lines tell.
+    /// Of a drive that is fresh. The status of another is not known before its lines tell it.
     pub fn new(source: Source) -> Trace {
         let proved = Drive::fresh();
-        let now = match source {
-            Source::Proved => {
-                Now { position: Some(proved.position), status: Some(status_of(&proved)), log: None }
-            }
-            Source::Lines => Now::default(),
-        };
+        let status = (source == Source::Proved).then(|| status_of(&proved));
+        let now = Now { position: proved.position, status, log: None };
         let mut trace = Trace {
             proved,
             source,
@@ -126,6 +127,8 @@ impl Trace {
             refused: 0,
             restarts: 0,
             greatest: None,
+            other_rank: false,
+            other_bit: false,
         };
         trace.show();
         trace
@@ -146,7 +149,8 @@ impl Trace {
         self.pass(bytes);
         match said {
             Said::Tick { report: Some(status), .. } | Said::Position { status, .. } => {
-                self.now.status = Some(status)
+                self.now.status = Some(status);
+                self.other_bit |= status >> 6 > 0;
             }
             _ => {}
         }
@@ -205,10 +209,11 @@ impl Trace {
                     column.refusals.push(refused);
                 }
             }
-            Said::Position { position, .. } => self.now.position = Some(position),
+            Said::Position { position, .. } => self.now.position = position,
             Said::Tick { position, rank, report, .. } => {
-                self.now.position = Some(position);
+                self.now.position = position;
                 self.column().ranks |= 1u8.checked_shl(rank.into()).unwrap_or(0);
+                self.other_rank |= Rank::numbered(rank).is_none();
                 if let Some(status) = report {
                     self.report(position, status);
                 }
@@ -232,13 +237,12 @@ impl Trace {
         let now = self.now;
         let column = self.column();
         column.status |= now.status.unwrap_or(0);
-        if let Some(position) = now.position {
-            column.damper = Span::both(column.damper, Some(Span::at(position)));
-        }
+        column.unknown |= now.status.is_none();
+        column.damper = Span::both(column.damper, Some(Span::at(now.position)));
         let Some((reported, status)) = now.log else { return };
         column.log = Span::both(column.log, Some(Span::at(reported)));
         column.reported |= status;
-        let Some(positions) = now.position.map(|position| position.abs_diff(reported)) else { return };
+        let positions = now.position.abs_diff(reported);
         column.distance = column.distance.max(Some(positions));
         if self.greatest.is_none_or(|greatest| greatest.positions < positions) {
             self.greatest = Some(Distance { positions, tick: self.ticks });
@@ -277,6 +281,7 @@ impl Column {
         self.reports.extend(&next.reports);
         self.ranks |= next.ranks;
         self.status |= next.status;
+        self.unknown |= next.unknown;
         self.reported |= next.reported;
         self.refused += next.refused;
         self.refusals.extend_from_slice(&next.refusals);
@@ -395,9 +400,11 @@ mod tests {
         trace.hear(&bytes(Event::ReadPosition), Said::Position { position: 20, percent: 0, status: 1 });
         let (columns, _) = trace.columns(768);
         assert_eq!((trace.ticks, trace.reports, trace.refused), (2, 1, 1));
-        assert_eq!((columns[0].damper, columns[1].damper), (None, Some(Span::at(7))));
+        assert_eq!((columns[0].damper, columns[1].damper), (Some(Span::at(0)), Some(Span::at(7))));
         assert_eq!(columns[2].damper, Some(Span { least: 7, greatest: 20 }));
         assert_eq!((columns[2].status, columns[2].reported), (255, 255));
+        assert_eq!(columns.iter().map(|c| c.unknown).collect::<Vec<_>>(), [true, true, true]);
+        assert!(trace.other_rank && trace.other_bit);
         assert_eq!(trace.greatest, Some(Distance { positions: 11, tick: 2 }));
         assert_eq!(trace.each_report(), Some(&[Report { tick: 2, position: 9, status: 255 }][..]));
     }

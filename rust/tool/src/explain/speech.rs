@@ -1,7 +1,22 @@
-//! Positions, statuses, who rules and why a report goes out, in words.
+//! Positions, statuses, who rules and why a report goes out, in words. What a record amounts to is asked of the
+//! proved drive: by a read, or by a look ahead from it or from a changed copy.
 
 use crate::percent::percent_of;
-use damper::{Drive, Outlook, Parameter, Rank, Run, Status};
+use damper::{Answer, Drive, Event, Outlook, Parameter, Rank, Status};
+
+/// What a tick would go by.
+pub fn look(drive: &Drive) -> Outlook {
+    drive.outlook().expect("a drive from fresh is well formed")
+}
+
+/// The status that a read gives.
+pub fn status_of(drive: &Drive) -> Status {
+    let mut read = *drive;
+    match read.give(Event::ReadPosition) {
+        Answer::Position { status, .. } => status,
+        answer => unreachable!("a read is answered by a position, not by `{answer}`"),
+    }
+}
 
 /// A position with its percent.
 pub fn place(position: u8) -> String {
@@ -27,18 +42,25 @@ pub fn status(status: Status) -> String {
 
 /// A parameter's value with its unit or meaning.
 pub fn value(parameter: Parameter, value: u16) -> String {
-    let meaning = match (parameter, value) {
-        (Parameter::Low | Parameter::High, _) => return u8::try_from(value).map_or(value.to_string(), place),
-        (Parameter::OpenCloseDirection, 0) => "the motor's directions as they are",
-        (Parameter::OpenCloseDirection, _) => "the motor's directions exchanged",
-        (Parameter::BackupMode, 0) => "BackupValue",
-        (Parameter::BackupMode, _) => "the last setpoint",
-        (Parameter::StartSynchronization, 0) => "none",
-        (Parameter::StartSynchronization, 1) => "close",
-        (Parameter::StartSynchronization, _) => "open",
-        _ => return format!("{value}{}", unit(parameter, value)),
-    };
-    format!("{value} ({meaning})")
+    match (parameter, meaning(parameter, value)) {
+        (Parameter::Low | Parameter::High, _) => u8::try_from(value).map_or(value.to_string(), place),
+        (_, Some(meaning)) => format!("{value} ({meaning})"),
+        (_, None) => format!("{value}{}", unit(parameter, value)),
+    }
+}
+
+/// What a value stands for, if it is no number of something.
+fn meaning(parameter: Parameter, value: u16) -> Option<&'static str> {
+    match (parameter, value) {
+        (Parameter::OpenCloseDirection, 0) => Some("the motor's directions not exchanged"),
+        (Parameter::OpenCloseDirection, _) => Some("the motor's directions exchanged"),
+        (Parameter::BackupMode, 0) => Some("BackupValue"),
+        (Parameter::BackupMode, _) => Some("the last setpoint"),
+        (Parameter::StartSynchronization, 0) => Some("none"),
+        (Parameter::StartSynchronization, 1) => Some("close"),
+        (Parameter::StartSynchronization, _) => Some("open"),
+        _ => None,
+    }
 }
 
 /// The unit behind that many.
@@ -57,7 +79,7 @@ pub fn source(drive: &Drive, rank: Rank) -> &'static str {
     match rank {
         Rank::Fault => "a fault",
         Rank::Forcing => "forcing",
-        Rank::Run => run(drive.run),
+        Rank::Run => run(status_of(drive)).unwrap_or("a run"),
         Rank::Hand => "the hand",
         Rank::Tool => "the override",
         Rank::Bus => "the bus",
@@ -65,57 +87,64 @@ pub fn source(drive: &Drive, rank: Rank) -> &'static str {
     }
 }
 
-pub fn run(Run { kind, .. }: Run) -> &'static str {
-    if kind == 1 {
-        "calibration"
-    } else {
-        "synchronization"
-    }
-}
-
-/// Who holds the damper where it stands, if nobody leads it anywhere.
-pub fn holder(drive: &Drive, outlook: &Outlook) -> Option<&'static str> {
-    match outlook.rank {
-        Rank::Fault => Some("a fault"),
-        Rank::Backup if by_setpoint(drive) && drive.commands.stored == 0 => {
-            Some("backup, without a setpoint,")
-        }
+/// The run that is going, if any.
+pub fn run(status: Status) -> Option<&'static str> {
+    match (status.calibration(), status.sync()) {
+        (true, _) => Some("calibration"),
+        (_, true) => Some("synchronization"),
         _ => None,
     }
 }
 
-/// Who rules a tick that finds the drive so, and toward what.
-pub fn rule(drive: &Drive, outlook: &Outlook) -> String {
-    if let Some(holder) = holder(drive, outlook) {
-        return format!("{holder} holds the damper where it stands, at {}", place(drive.position));
-    }
-    let named = match outlook.rank {
-        Rank::Backup if by_setpoint(drive) => "the last setpoint, ",
-        Rank::Backup => "BackupValue, ",
-        _ => "",
-    };
-    let source = source(drive, outlook.rank);
-    let verb = if drive.position == outlook.target { "holds" } else { "rules toward" };
-    let asked = asked(drive, outlook);
-    let target = place(outlook.target);
-    match limit(asked, outlook.target) {
-        None => format!("{source} {verb} {named}{target}"),
-        Some(limit) => format!("{source} asks for {named}{}, {limit}, and {verb} {target}", place(asked)),
-    }
+/// Whether the ruling source leads nowhere: toward where the damper stands, wherever that is.
+pub fn stands(drive: &Drive) -> bool {
+    let elsewhere = Drive { position: !drive.position, ..*drive };
+    [*drive, elsewhere].iter().all(|drive| look(drive).target == drive.position)
 }
 
-/// Whether backup goes by the last setpoint.
-fn by_setpoint(drive: &Drive) -> bool {
-    drive.parameter(Parameter::BackupMode) == 1
+/// Who rules a tick that finds the drive so, and toward what.
+pub fn rule(drive: &Drive, outlook: &Outlook) -> String {
+    let without = match (outlook.rank, drive.commands.stored) {
+        (Rank::Backup, 0) if stands(drive) => ", without a setpoint,",
+        _ => "",
+    };
+    format!("{}{without} {}", source(drive, outlook.rank), leads(drive, outlook))
+}
+
+/// What the ruling source does.
+pub fn leads(drive: &Drive, outlook: &Outlook) -> String {
+    if stands(drive) {
+        return format!("holds the damper where it stands, at {}", place(drive.position));
+    }
+    let named = match outlook.rank {
+        Rank::Backup => meaning(Parameter::BackupMode, drive.parameter(Parameter::BackupMode)),
+        _ => None,
+    };
+    let named = named.map_or(String::new(), |named| format!("{named}, "));
+    let verb = if drive.position == outlook.target { "holds" } else { "rules toward" };
+    let asked = asked(drive);
+    let target = place(outlook.target);
+    match limit(asked, outlook.target) {
+        None => format!("{verb} {named}{target}"),
+        Some(limit) => format!("asks for {named}{}, {limit}, and {verb} {target}", place(asked)),
+    }
 }
 
 /// What the ruling source asks for: the target, were there no Low and High.
-pub fn asked(drive: &Drive, outlook: &Outlook) -> u8 {
+fn asked(drive: &Drive) -> u8 {
     let mut unlimited = *drive;
     for (parameter, value) in [(Parameter::Low, 0), (Parameter::High, 255)] {
         unlimited.params[parameter.place()] = value;
     }
-    unlimited.outlook().map_or(outlook.target, |unlimited| unlimited.target)
+    look(&unlimited).target
+}
+
+/// What forcing asks for, if it is on: the target, were there no fault.
+pub fn forced(drive: &Drive) -> Option<u8> {
+    let mut sound = *drive;
+    sound.commands.fault = 0;
+    let outlook = look(&sound);
+    (outlook.rank == Rank::Forcing).then_some(outlook.target)
 }
 
 /// Where what is asked for lies, if the target is not that.
@@ -127,50 +156,77 @@ pub fn limit(asked: u8, target: u8) -> Option<&'static str> {
     }
 }
 
-/// In what the position and status that a tick leaves differ from the last reported ones; `restarted` where
-/// there was a restart.
+/// In what the position and status that a tick leaves, named before, differ from the last reported ones;
+/// `restarted` where there was a restart.
 pub fn differences(drive: &Drive, outlook: &Outlook, restarted: bool) -> Vec<String> {
-    let last = drive.last;
-    let mut all = Vec::new();
-    if outlook.first {
-        let since = if restarted { "since the restart" } else { "yet" };
-        all.push(format!("there was no report {since}"));
-    }
-    if outlook.changed {
-        let distance = outlook.position.abs_diff(last.position);
-        all.push(format!(
-            "the last reported position, {}, is {} ({} %) away",
-            last.position,
-            many(distance.into(), "position"),
-            percent_of(distance)
-        ));
-    }
-    if outlook.differs {
-        all.push(format!("the last reported status was {}", status(Status(last.status))));
-    }
-    all
+    differing(drive, outlook, restarted, "")
 }
 
-/// All reasons for a report that hold in a tick.
+/// All reasons for a report that hold in a tick, the status that it leaves being named before.
 pub fn reasons(drive: &Drive, outlook: &Outlook, restarted: bool) -> Vec<String> {
-    let mut all = differences(drive, outlook, restarted);
+    with_period(differences(drive, outlook, restarted), drive, outlook)
+}
+
+/// All reasons, that status not being named before.
+pub fn reasons_held_back(drive: &Drive, outlook: &Outlook, restarted: bool) -> Vec<String> {
+    let is = format!(" is {} and", status(outlook.status));
+    with_period(differing(drive, outlook, restarted, &is), drive, outlook)
+}
+
+fn with_period(mut all: Vec<String>, drive: &Drive, outlook: &Outlook) -> Vec<String> {
     if outlook.period {
         all.push(format!("RepPer, {} s, has passed", drive.parameter(Parameter::RepPer)));
     }
     all
 }
 
+/// The differences; `is` says the present status.
+fn differing(drive: &Drive, outlook: &Outlook, restarted: bool, is: &str) -> Vec<String> {
+    let mut all = Vec::new();
+    if outlook.first {
+        let since = if restarted { "since the restart" } else { "yet" };
+        all.push(format!("there was no report {since}"));
+    }
+    if outlook.changed {
+        all.push(format!("{} and {}", away(drive, outlook), takes(drive)));
+    }
+    if outlook.differs {
+        all.push(format!("the status{is} was last reported as {}", status(Status(drive.last.status))));
+    }
+    all
+}
+
+/// How far off the last reported position is.
+fn away(drive: &Drive, outlook: &Outlook) -> String {
+    let last = drive.last.position;
+    let distance = outlook.position.abs_diff(last);
+    format!("the last reported position, {last}, is {} away", many(distance.into(), "position"))
+}
+
+/// How far off it has to be.
+fn takes(drive: &Drive) -> String {
+    let percent = drive.parameter(Parameter::ActPosCov);
+    format!("ActPosCOV, {percent} %, takes {}", least_change(percent))
+}
+
+/// The least distance that is a change by ActPosCOV: that of a drive that stays at 0, where every distance fits.
+pub fn least_change(percent: u16) -> u8 {
+    let mut drive = Drive::fresh();
+    drive.params[Parameter::ActPosCov.place()] = percent;
+    drive.last.reported = 1;
+    let changes = |last: &u8| {
+        drive.last.position = *last;
+        look(&drive).changed
+    };
+    (0..=255).find(changes).expect("the whole way is a change")
+}
+
 /// That there is no reason for a report, `since` being the seconds since the last one.
 pub fn unchanged(drive: &Drive, outlook: &Outlook, since: u16) -> String {
-    let distance = outlook.position.abs_diff(drive.last.position);
-    let same = match distance {
-        0 => "position and status are as reported".to_string(),
-        _ => {
-            let away = many(distance.into(), "position");
-            let (last, least) = (drive.last.position, drive.parameter(Parameter::ActPosCov));
-            let less = format!("is {away} away, less than ActPosCOV, {least} %");
-            format!("the last reported position, {last}, {less}, the status is as reported")
-        }
+    let same = if outlook.position == drive.last.position {
+        "position and status are as reported".to_string()
+    } else {
+        format!("{}, and {}; the status is as reported", away(drive, outlook), takes(drive))
     };
     format!("{same}, and {}", passed(drive, since, Parameter::RepPer))
 }
@@ -191,12 +247,13 @@ pub fn many(count: u64, what: &str) -> String {
     format!("{count} {what}{}", if count == 1 { "" } else { "s" })
 }
 
-/// Clauses in a row.
+/// Clauses in a row, with a comma before the last where one has an `and` of its own.
 pub fn joined(clauses: &[String]) -> String {
+    let comma = if clauses.iter().any(|clause| clause.contains(" and ")) { "," } else { "" };
     match clauses {
         [] => String::new(),
         [only] => only.clone(),
-        [first @ .., last] => format!("{} and {last}", first.join(", ")),
+        [first @ .., last] => format!("{}{comma} and {last}", first.join(", ")),
     }
 }
 

@@ -47,7 +47,7 @@ pub fn parse(line: &mut Line, mode: u16) -> Result<Entry, Wrong> {
         "setpoint" => Event::Setpoint(byte(line.word(), "a position", Event::Setpoint)?),
         "set" => percent(line, mode, Command::Write)?,
         "override" => percent(line, mode, Command::Override)?,
-        "release" => lte(in_mode(line, mode, "")?, Command::Release),
+        "release" => Event::lte(in_mode(line, mode, "")?, Command::Release),
         "forcing" => Event::Forcing(byte(line.word(), "a forcing", Event::Forcing)?),
         "hand" => {
             let hand = |position| Event::Hand(Some(position));
@@ -98,17 +98,12 @@ fn byte(word: Word, what: &str, event: impl Fn(u8) -> Event) -> Result<u8, Wrong
     }
 }
 
-/// An LTE setpoint, its property belonging to that DamperMode.
-fn lte(mode: u16, command: Command) -> Event {
-    Event::Lte { property: 50 + mode as u8, command }
-}
-
 /// `50 %`, `50%` or `50`, then perhaps `in mode 2`.
 fn percent(line: &mut Line, mode: u16, command: impl Fn(u8) -> Command) -> Result<Event, Wrong> {
     let mut word = line.word();
     let attached = word.text.strip_suffix('%').filter(|text| !text.is_empty());
     word.text = attached.unwrap_or(word.text);
-    let percent = byte(word, "a percent", |byte| lte(mode, command(byte)))?;
+    let percent = byte(word, "a percent", |byte| Event::lte(mode, command(byte)))?;
     let mut instead = "";
     if attached.is_none() {
         if line.peek().text == "%" {
@@ -117,7 +112,7 @@ fn percent(line: &mut Line, mode: u16, command: impl Fn(u8) -> Command) -> Resul
             instead = "`%`, ";
         }
     }
-    Ok(lte(in_mode(line, mode, instead)?, command(percent)))
+    Ok(Event::lte(in_mode(line, mode, instead)?, command(percent)))
 }
 
 /// `in mode 2`, or the mode in force at the end of the line; what could have stood here instead is for the message.

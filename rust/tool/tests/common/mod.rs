@@ -20,11 +20,7 @@ use std::rc::Rc;
 
 /// The event records of a scenario.
 pub fn records_of(path: &Path) -> Vec<u8> {
-    let scenario = Input::open(Some(path.as_os_str())).and_then(Scenario::read);
-    let (mut output, kept) = captured();
-    scenario.and_then(|scenario| scenario.write(&mut output)).unwrap_or_else(|failure| panic!("{failure}"));
-    drop(output);
-    kept.take()
+    written(|output| Scenario::read(Input::open(Some(path))?)?.write(output))
 }
 
 /// A scenario of the documentation.
@@ -80,14 +76,20 @@ pub fn captured() -> (Output, Rc<RefCell<Vec<u8>>>) {
     (Output::new("test", Shared(kept.clone())), kept)
 }
 
+/// What is written.
+pub fn written(write: impl FnOnce(&mut Output) -> Result<(), Failure>) -> Vec<u8> {
+    let (mut output, kept) = captured();
+    write(&mut output).unwrap_or_else(|failure| panic!("{failure}"));
+    drop(output);
+    kept.take()
+}
+
 pub fn input(name: &str, bytes: &[u8]) -> Input {
     Input::new(name, Cursor::new(bytes.to_vec()))
 }
 
 pub fn explained(records: &[u8]) -> String {
-    let (mut output, kept) = captured();
-    explain::explain(&mut input("records", records), &mut output).unwrap();
-    let text = kept.take();
+    let text = written(|output| explain::explain(&mut input("records", records), output));
     String::from_utf8(text).unwrap()
 }
 

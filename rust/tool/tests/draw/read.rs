@@ -18,6 +18,8 @@ pub struct Shown {
     pub ranks: [BTreeSet<usize>; 7],
     pub status: [BTreeSet<usize>; 6],
     pub reported: [BTreeSet<usize>; 6],
+    /// How many of the first columns have an unknown status.
+    pub unknown: usize,
 }
 
 /// Of a picture of so many columns; it panics where that is not well-formed XML.
@@ -39,6 +41,7 @@ pub fn shown(svg: &str, columns: usize) -> Shown {
         ranks: std::array::from_fn(|rank| picture.row(&format!("rank-{rank}"))),
         status: std::array::from_fn(|bit| picture.row(&format!("status-{bit}"))),
         reported: std::array::from_fn(|bit| picture.row(&format!("reported-{bit}"))),
+        unknown: picture.unknown(),
     }
 }
 
@@ -154,6 +157,13 @@ impl Picture {
             assert_eq!(marks.insert(along as usize, count), None, "two marks in a column");
         }
         marks
+    }
+
+    fn unknown(&self) -> usize {
+        let Some(place) = self.place("unknown") else { return 0 };
+        let number = |name| self.elements[place].get(name).unwrap().parse::<f64>().unwrap();
+        assert_eq!(number("x"), LEFT);
+        self.edge(number("x") + number("width"))
     }
 
     fn row(&self, id: &str) -> BTreeSet<usize> {
