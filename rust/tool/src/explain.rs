@@ -6,9 +6,10 @@ use crate::command::{Arguments, Command};
 use crate::failure::Failure;
 use crate::input::Input;
 use crate::output::Output;
+use crate::reading::status_of;
 use crate::words;
 use damper::{Answer, Command as Lte, Drive, Event, Motor, Outlook, Parameter, Rank, Refusal, Status};
-use speech::{capital, forced, joined, limit, look, many, place, source, stands, status_of, unit, value};
+use speech::{capital, forced, joined, limit, look, many, place, source, stands, unit, value};
 
 pub const COMMAND: Command = Command {
     name: "explain",

@@ -11,7 +11,7 @@ pub mod input;
 pub mod lines;
 pub mod nearest;
 pub mod output;
-pub mod percent;
+pub mod reading;
 pub mod recording;
 pub mod scenario;
 pub mod words;

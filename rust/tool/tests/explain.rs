@@ -81,7 +81,7 @@ fn golden_files_meet_all() {
         "and is there",
         "OpenCloseDirection is 0 (the motor's directions not exchanged), as it was",
         "and ActPosCOV, 1 %, takes 3, and the status was last reported as 32 (bus not active).",
-        "takes 6, the status was last reported as 2 (hand or tool active), and RepPer, 2 s, has passed.",
+        "takes 6, the status was last reported as 2 (hand or tool), and RepPer, 2 s, has passed.",
         "away, and ActPosCOV, 2 %, takes 6; the status is as reported",
         "the status is 16 (forced) and was last reported as 0 (nothing set)",
         "Now the bus rules",

@@ -1,6 +1,9 @@
 //! The sentences of the claim, and what is wrong where one fails.
 
-use crate::explain::speech::{differences, joined, many, place, reasons, rule, status, too_early, unchanged};
+use crate::explain::speech::{
+    differences, joined, look, many, place, reasons, rule, status, too_early, unchanged,
+};
+use crate::reading::status_of;
 use damper::{Answer, Audit, Drive, Event, Findings, Outlook, Parameter, Refusal, Said, Status};
 
 /// In the order in which they are printed.
@@ -196,7 +199,7 @@ impl Heard<'_> {
     fn moving(&self) -> String {
         let from = self.audit.seen();
         let there = Drive { position: from, ..*self.audit.drive() };
-        let outlook = outlook(&there);
+        let outlook = look(&there);
         let to = outlook.position;
         let way = match self.shown() {
             None => format!("no position is said; the damper was at {from} and comes to {to}"),
@@ -238,16 +241,12 @@ impl Heard<'_> {
 
     /// What a tick goes by that finds the proved drive so.
     fn outlook(&self) -> Outlook {
-        outlook(self.audit.drive())
+        look(self.audit.drive())
     }
 
     /// Position and status that the record leaves.
     fn left(&self) -> (u8, u8) {
-        let mut read = self.drive;
-        match read.give(Event::ReadPosition) {
-            Answer::Position { position, status, .. } => (position, status.0),
-            answer => unreachable!("a read is answered by a position, not by `{answer}`"),
-        }
+        (self.drive.position, status_of(&self.drive).0)
     }
 
     fn min_rep_time(&self) -> u64 {
@@ -283,10 +282,6 @@ impl Heard<'_> {
     fn position(&self) -> u8 {
         self.shown().unwrap_or(self.audit.seen())
     }
-}
-
-fn outlook(drive: &Drive) -> Outlook {
-    drive.outlook().expect("a drive from fresh is well formed")
 }
 
 /// Position and status.

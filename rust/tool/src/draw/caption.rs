@@ -2,15 +2,11 @@
 
 use crate::count::{counted, digits};
 use crate::draw::trace::{Column, Refused, Report, Source, Trace};
-use crate::percent::percent_of;
-use damper::Refusal;
+use crate::reading::{bits_of, percent_of};
+use damper::{Refusal, Status};
 use std::ffi::OsStr;
 use std::fmt;
 use std::path::Path;
-
-/// The bits of the status, from the lowest.
-pub const STATUS_BITS: [&str; 6] =
-    ["fault", "hand or tool", "calibration", "synchronization", "forced", "bus not active"];
 
 /// Characters of a file's name that are shown.
 const NAME: usize = 30;
@@ -126,14 +122,9 @@ pub fn restarted(column: &Column, when: When) -> String {
 }
 
 pub fn status_words(status: u8) -> String {
-    let bit = |bit: usize| match STATUS_BITS.get(bit) {
-        Some(name) => name.to_string(),
-        None => format!("bit {bit}"),
-    };
-    let set: Vec<String> = (0..8).filter(|place| status >> place & 1 == 1).map(bit).collect();
-    match set.is_empty() {
-        true => "status 0".to_string(),
-        false => format!("status {status}: {}", set.join(", ")),
+    match &bits_of(Status(status))[..] {
+        [] => "status 0".to_string(),
+        bits => format!("status {status}: {}", bits.join(", ")),
     }
 }
 

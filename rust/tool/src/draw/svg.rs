@@ -18,8 +18,9 @@
 //! 123 of a restart. That is 1275, with 768 columns 979,200, and less than 12,000 are there once.
 
 use crate::count::digits;
-use crate::draw::caption::{self, When, STATUS_BITS};
+use crate::draw::caption::{self, When};
 use crate::draw::trace::{Column, Span, Trace, KEPT_REFUSALS};
+use crate::reading::STATUS_BITS;
 use damper::Rank;
 use std::fmt::{self, Write};
 

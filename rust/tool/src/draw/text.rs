@@ -1,8 +1,9 @@
 //! The picture in characters.
 
 use crate::count::digits;
-use crate::draw::caption::{self, STATUS_BITS};
+use crate::draw::caption;
 use crate::draw::trace::{Column, Span, Trace};
+use crate::reading::STATUS_BITS;
 use damper::Rank;
 
 /// Rows of the chart, the lowest for 0 and the highest for 255.

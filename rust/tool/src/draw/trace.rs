@@ -4,6 +4,7 @@
 //! Time is the count of accepted ticks so far. What a tick leaves belongs to its own time, and so does what
 //! follows it up to the next tick; time 0 is before the first.
 
+use crate::reading::status_of;
 use damper::{Answer, Drive, Event, Rank, Said};
 
 /// Columns that are held at most; then two and two become one.
@@ -112,7 +113,7 @@ impl Trace {
     /// Of a drive that is fresh. The status of another is not known before its lines tell it.
     pub fn new(source: Source) -> Trace {
         let proved = Drive::fresh();
-        let status = (source == Source::Proved).then(|| status_of(&proved));
+        let status = (source == Source::Proved).then(|| status_of(&proved).0);
         let now = Now { position: proved.position, status, log: None };
         let mut trace = Trace {
             proved,
@@ -139,7 +140,7 @@ impl Trace {
         let answer = self.pass(bytes);
         // A refused event changes nothing.
         if !matches!(answer, Answer::Refused(_)) {
-            self.now.status = Some(status_of(&self.proved));
+            self.now.status = Some(status_of(&self.proved).0);
         }
         self.say(answer.said());
     }
@@ -251,14 +252,6 @@ impl Trace {
 
     fn column(&mut self) -> &mut Column {
         self.columns.last_mut().expect("time 0 has a column")
-    }
-}
-
-/// A read gives it and changes nothing.
-fn status_of(drive: &Drive) -> u8 {
-    match { *drive }.give(Event::ReadPosition) {
-        Answer::Position { status, .. } => status.0,
-        answer => unreachable!("a read is answered by a position, not by `{answer}`"),
     }
 }
 

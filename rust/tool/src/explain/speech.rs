@@ -1,21 +1,12 @@
 //! Positions, statuses, who rules and why a report goes out, in words. What a record amounts to is asked of the
 //! proved drive: by a read, or by a look ahead from it or from a changed copy.
 
-use crate::percent::percent_of;
-use damper::{Answer, Drive, Event, Outlook, Parameter, Rank, Status};
+use crate::reading::{bits_of, percent_of, status_of};
+use damper::{Drive, Outlook, Parameter, Rank, Status};
 
 /// What a tick would go by.
 pub fn look(drive: &Drive) -> Outlook {
     drive.outlook().expect("a drive from fresh is well formed")
-}
-
-/// The status that a read gives.
-pub fn status_of(drive: &Drive) -> Status {
-    let mut read = *drive;
-    match read.give(Event::ReadPosition) {
-        Answer::Position { status, .. } => status,
-        answer => unreachable!("a read is answered by a position, not by `{answer}`"),
-    }
 }
 
 /// A position with its percent.
@@ -25,19 +16,11 @@ pub fn place(position: u8) -> String {
 
 /// A status byte with its bits.
 pub fn status(status: Status) -> String {
-    let bits = [
-        (status.fault(), "fault"),
-        (status.hand_or_tool(), "hand or tool active"),
-        (status.calibration(), "calibration"),
-        (status.sync(), "synchronization"),
-        (status.forced(), "forced"),
-        (status.bus_not_active(), "bus not active"),
-        (status.0 & 64 != 0, "bit 6"),
-        (status.0 & 128 != 0, "bit 7"),
-    ];
-    let set: Vec<_> = bits.into_iter().filter(|(set, _)| *set).map(|(_, name)| name).collect();
-    let words = if set.is_empty() { "nothing set".to_string() } else { set.join(", ") };
-    format!("{} ({words})", status.0)
+    let bits = match &bits_of(status)[..] {
+        [] => "nothing set".to_string(),
+        bits => bits.join(", "),
+    };
+    format!("{} ({bits})", status.0)
 }
 
 /// A parameter's value with its unit or meaning.
