@@ -275,7 +275,7 @@ fn other_answer(answer: Answer, rng: &mut Rng) -> Answer {
         },
         Answer::Parameter(value) => Answer::Parameter(value ^ u16::from(bit)),
         Answer::Refused(_) if rng.once_in(2) => Answer::Done,
-        Answer::Done if rng.once_in(8) => {
+        Answer::Done if rng.once_in(3) => {
             let report = rng.once_in(2).then_some(Status(32));
             Answer::Tick { position: rng.byte(), rank: Rank::Backup, motor: Motor::Still, report }
         }
