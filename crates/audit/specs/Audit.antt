@@ -1,5 +1,5 @@
--- What the audit keeps, and what it finds at an event record. That these findings are the sentences of demand 3 that fail is proved in the
--- crate recording.
+-- What the audit keeps, and what it finds at an event record. What the findings say of demand 3's sentences and, `answer`, of demand 2 is
+-- proved in the crate recording.
 use mathlib.Core.Bool.{Bool, true, false, not, _&&_, _||_}
 use mathlib.Core.List.{List}
 use Prim.Native.Nat.{ℕ}

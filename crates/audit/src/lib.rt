@@ -1,4 +1,4 @@
-// An audit of a drive's answers, ours or another's: which sentences of demand 3 fail at each event record. What the answers are held
+// An audit of a drive's answers, ours or another's: which sentences of demands 2 and 3 fail at each event record. What the answers are held
 // against is the list of event records alone, carried by the proved drive.
 ghost use mathlib.Core.Path.{_≡_};
 ghost use mathlib.Core.Bool.{true};

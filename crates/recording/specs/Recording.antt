@@ -29,8 +29,8 @@ recordingOf [] os = []
 recordingOf (s ∷ l) [] = []
 recordingOf (s ∷ l) (o ∷ os) = record { bytes = s; answer = o .answer } ∷ recordingOf l os
 
--- the position after an answer, `p` being the one before: where a line shows no position, the damper is where it was last seen, so that a
--- move there is found at the next line that shows one
+-- the position after an answer, `p` being the one before: where a line shows no position, the damper is where it was last shown, so that a
+-- move there is found at the next line that shows one, if it is not undone by then
 abbrev pub shownIn : ℕ → Answer → ℕ
 shownIn p (No n) = p
 shownIn p Done = p

@@ -7,8 +7,9 @@
 //!
 //! The second implementation is `table`, `event` and `model`, and `hall` over them; it shares with a host's
 //! crate `damper` the types of the drive record and of the answer, and no rule. `check` stands apart: it
-//! reads demand 3 off the list of event records, and `literal` does so word for word. `settle` judges W-207 by
-//! the records and answers of the drive or hall under test, and reads document 01 on its own too.
+//! reads demand 3 off the list of event records, and `literal` does so word for word. `audits` sets the proved
+//! audit and outlook against `check` and the model. `settle` judges W-207 by the records and answers of the drive
+//! or hall under test, and reads document 01 on its own too.
 
 pub mod audits;
 pub mod bench;

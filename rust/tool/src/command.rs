@@ -1,7 +1,9 @@
 //! The command line.
 
 use crate::failure::Failure;
+use crate::input::Input;
 use crate::nearest::nearest;
+use crate::output::Output;
 use crate::{audit, draw, explain, scenario, words};
 use std::ffi::OsString;
 use std::io::{self, Write};
@@ -75,6 +77,20 @@ impl Arguments {
     pub fn from_and_to(mut self, most: usize) -> Result<(Vec<OsString>, Option<OsString>), Failure> {
         let to = self.value(&["-o"])?;
         Ok((self.places(most)?, to))
+    }
+
+    /// Carries out a command `NAME [RECORDS] [-o FILE]`, which writes what `tell` makes of the records.
+    pub fn tell_records(
+        self,
+        tell: fn(&mut Input, &mut Output) -> Result<(), Failure>,
+    ) -> Result<bool, Failure> {
+        let (from, to) = self.from_and_to(1)?;
+        let mut input = Input::open(from.first())?;
+        input.begin()?;
+        let mut output = Output::open(to.as_deref(), &[input.file()])?;
+        tell(&mut input, &mut output)?;
+        input.hint();
+        Ok(true)
     }
 
     pub fn usage(&self, text: impl Into<String>) -> Failure {

@@ -39,13 +39,7 @@ percent behind it, a status its bits.
 ";
 
 fn run(arguments: Arguments) -> Result<bool, Failure> {
-    let (from, to) = arguments.from_and_to(1)?;
-    let mut input = Input::open(from.first())?;
-    input.begin()?;
-    let mut output = Output::open(to.as_deref(), &[input.file()])?;
-    explain(&mut input, &mut output)?;
-    input.hint();
-    Ok(true)
+    arguments.tell_records(explain)
 }
 
 /// A line for each event record.

@@ -32,13 +32,7 @@ that is given the records refuses this one, or what a `raw` one is to it.
 };
 
 fn run(arguments: Arguments) -> Result<bool, Failure> {
-    let (from, to) = arguments.from_and_to(1)?;
-    let mut input = Input::open(from.first())?;
-    input.begin()?;
-    let mut output = Output::open(to.as_deref(), &[input.file()])?;
-    write(&mut input, &mut output)?;
-    input.hint();
-    Ok(true)
+    arguments.tell_records(write)
 }
 
 /// The words of all records of an input.
