@@ -25,7 +25,7 @@ use Rattle.sentences_list.specs.Moves.{Fit, Fits, none, more}
 
 read-from : (l : List (List ℕ)) → after l .params ≡ R.parameters (R.historyOf l)
 unfolding C.accepted
-read-from l = rw (← (accepted-read l _ [] (outcomes-length stepOf freshDrive l))) (good-after l .agrees .params)
+read-from l = rw (← (accepted-read l (outcomes stepOf freshDrive l) [] (outcomes-length stepOf freshDrive l))) (good-after l .agrees .params)
 
 given-last : (l : List (List ℕ)) → R.historyOf (reverse l) ≡ given l
 given-last l = history-from (reverse l) [] ∙ rw (reverse-reverse l)

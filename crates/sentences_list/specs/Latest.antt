@@ -38,7 +38,7 @@ module _ (p : Event → Type 0) (t : Event → Bool) (there : (e : Event) → p 
   is-below : (x : Event) (l : List Event) (f : R.Found) → (p x → ⊥) → Is l f → Is (x ∷ l) (R.below x f)
   is-below x l R.nothing n w = L.more n w
   is-below x l (R.found after e before) n w =
-      record { split = ap (λ (k : List Event). x ∷ k) (w .split); is = w .is; none-after = L.more n (w .none-after) }
+      record { split = ap (λ (k : List Event). x ∷ k) (w .split); so = w .so; none-after = L.more n (w .none-after) }
 
   -- what the product finds is the latest
   pub is-latest : (l : List Event) → L.Each Back l → Is l (R.latest t l)
@@ -47,7 +47,7 @@ module _ (p : Event → Type 0) (t : Event → Bool) (there : (e : Event) → p 
   is-latest (x ∷ l) (L.more b bs) =
       let rest = is-latest l bs in
       pick-elim (Is (x ∷ l)) (t x)
-      (λ q. record { split = refl; is = b q; none-after = L.none })
+      (λ q. record { split = refl; so = b q; none-after = L.none })
       (λ q. is-below x l (R.latest t l) (λ y. false≢true (sym q ∙ there x y)) rest)
 
   -- and what is the latest it finds
@@ -61,14 +61,17 @@ module _ (p : Event → Type 0) (t : Event → Bool) (there : (e : Event) → p 
   pub found-is : {l after : List Event} {e : Event} {before : List Event} → L.Each Back l → L.Latest p l after e before
       → R.latest t l ≡ R.found after e before
   found-is {l} {after} {e} {before} b w =
-      rw (w .split) (found-at after e before (each-left after (e ∷ before) (subst (L.Each Back) (w .split) b)) (w .is) (w .none-after))
+      rw (w .split) (found-at after e before (each-left after (e ∷ before) (subst (L.Each Back) (w .split) b)) (w .so) (w .none-after))
+
+  nothing-at : (l : List Event) → L.Each Back l → L.Without p l → R.latest t l ≡ R.nothing
+  unfolding R.latest
+  nothing-at [] b w = refl
+  nothing-at (e ∷ l) (L.more b bs) (L.more n w) =
+      let rest = nothing-at l bs w in
+      cases (t e) (λ q. absurd (n (b q))) (λ q. rw (q, rest))
 
   pub nothing-is : {l : List Event} → L.Each Back l → L.Without p l → R.latest t l ≡ R.nothing
-  unfolding R.latest
-  nothing-is {[]} b w = refl
-  nothing-is {e ∷ l} (L.more b bs) (L.more n w) =
-      let rest = nothing-is {l} bs w in
-      cases (t e) (λ q. absurd (n (b q))) (λ q. rw (q, rest))
+  nothing-is {l} b w = nothing-at l b w
 
   -- "as their latest event says, .. and off without one"
   module _ (of says : Event → ℕ) (same : (e : Event) → of e ≡ says e) (off : ℕ) where

@@ -9,7 +9,7 @@ use native.Mathlib.Nat.{add-zero}
 use native.Mathlib.Numerals.{add-one}
 use lib.Dec.{eqb}
 use lib.ListN.{length}
-use borrow.Author.Tests.{eqb-true, eqb-false, ne-eqb}
+use borrow.Author.Tests.{eqb-true, eqb-false, eq-eqb, ne-eqb}
 use Rattle.numbers.specs.Numbers.{pick}
 use Rattle.numbers.specs.Laws.{cases, and-left, and-right}
 use Rattle.event.specs.declared.Event.{Event}
@@ -26,7 +26,7 @@ use Rattle.sentences_list.specs.Judging.{judgement-is, has-judgement}
 use Rattle.sentences_list.specs.Moves.{Fits, more, fit, position-is, position-read, tick-status-is, has-tick-status}
 
 -- the product's state after told events
-stateOf : List L.Told → G.ReportState
+pub stateOf : List L.Told → G.ReportState
 stateOf [] = G.reportState 0 silent
 stateOf (m ∷ k) =
     let x = stateOf k in
@@ -35,15 +35,15 @@ stateOf (m ∷ k) =
     (pick (m .reported) (G.reportState 0 (sent (R.positionIn h) (R.statusIn h)))
     (G.reportState (pick (R.isTick (m .event)) (x .since + 1) (x .since)) (x .last)))
 
-abbrev reportsAt : List L.Told → List ℕ → Bool
+abbrev pub reportsAt : List L.Told → List ℕ → Bool
 reportsAt k s = G.reportsAt (E.eventIn s) (L.events k) (stateOf k)
 
 -- what records, the latest first, tell and report
-toldOf : List (List ℕ) → List L.Told
+pub toldOf : List (List ℕ) → List L.Told
 toldOf [] = []
 toldOf (s ∷ l) = let k = toldOf l in pick (eqb (R.judgement (L.events k) s) 0) (L.told (E.eventIn s) (reportsAt k s) ∷ k) k
 
-entriesOf : List (List ℕ) → List G.Entry
+pub entriesOf : List (List ℕ) → List G.Entry
 entriesOf [] = []
 entriesOf (s ∷ l) =
     let k = toldOf l in
@@ -174,15 +174,15 @@ set-or : {A : Type 0} (k : List L.Told) → (L.Without L.SetsSince k → A)
     → ((after : List L.Told) (m : L.Told) (before : List L.Told) → L.Latest L.SetsSince k after m before → A) → A
 set-or [] f g = f L.none
 set-or (m ∷ k) f g =
-    set-at m (λ x. g [] m k (record { split = refl; is = x; none-after = L.none }))
+    set-at m (λ x. g [] m k (record { split = refl; so = x; none-after = L.none }))
     (λ n. set-or k (λ w. f (L.more n w))
     (λ after y before w.
     g (m ∷ after) y before
-    (record { split = ap (λ (u : List L.Told). m ∷ u) (w .split); is = w .is; none-after = L.more n (w .none-after) })))
+    (record { split = ap (λ (u : List L.Told). m ∷ u) (w .split); so = w .so; none-after = L.more n (w .none-after) })))
 
 since-is : (k : List L.Told) (n : ℕ) → L.Since k n → stateOf k .since ≡ n
 since-is k n (L.after-that {after = after} {m = m} {before = before} w e) =
-    rw (w .split, stretch after (m ∷ before) (w .none-after), since-set m before (w .is), same-ticks (L.events after)) (omega arith)
+    rw (w .split, stretch after (m ∷ before) (w .none-after), since-set m before (w .so), same-ticks (L.events after)) (omega arith)
 since-is k n (L.from-the-beginning w e) =
     ap (λ (x : List L.Told). stateOf x .since) (sym (append-nil k))
     ∙ rw (stretch k [] w, since-start, same-ticks (L.events k)) (omega arith)
@@ -242,7 +242,7 @@ module _ (k : List L.Told) (f : Fits (L.events k)) (b : L.Each TickReports k) wh
           ∙ (λ i. sent (position-is g x i) (tick-status-is (m .event) (L.events before) t (fit (rest-fits g)) s z i)) in
       subst (Same 1 p s) (sym e) (some p s)
   last-is r p s (L.restart {after = after} {m = m} {before = before} w y) =
-      subst (Same 0 0 0) (sym (last-after k after m before w ∙ last-cleared m before (w .is) y)) none
+      subst (Same 0 0 0) (sym (last-after k after m before w ∙ last-cleared m before (w .so) y)) none
   last-is r p s (L.none w) = subst (Same 0 0 0) (sym (last-never k w)) none
 
   -- and there is one
@@ -340,7 +340,7 @@ module _ (fits : (h : List Event) → L.Accepted h → Fits h) where
       let p-is = position-is g y in
       let v-is = tick-status-is (E.eventIn s) (L.events k) z (fit f) v w in
       let d : reportsAt k s ≡ false =
-          rw (z, p-is, v-is)
+          rw (p-is, v-is, eq-eqb (E.eventIn s .kind) 1 z)
           (cases (dueNow k f (tick-reports x) (E.eventIn s) z p v) (λ q. absurd (n (has-due k f (tick-reports x) (E.eventIn s) z p v q))) (λ q. q)) in
       (told-more s l k es b ∙ rw (e, d), entries-more s l k es b ∙ rw (e, d))
   log-both (L.sent {l = l} {k = k} {es = es} {s = s} {p = p} {v = v} x j z y w n) =
@@ -350,7 +350,7 @@ module _ (fits : (h : List Event) → L.Accepted h → Fits h) where
       let g = fits (E.eventIn s ∷ L.events k) (s ∷ l, L.accepted (log-history x) j) in
       let p-is = position-is g y in
       let v-is = tick-status-is (E.eventIn s) (L.events k) z (fit f) v w in
-      let d : reportsAt k s ≡ true = rw (z, p-is, v-is) (due-is k f (tick-reports x) (E.eventIn s) z p v n) in
+      let d : reportsAt k s ≡ true = rw (p-is, v-is, eq-eqb (E.eventIn s .kind) 1 z) (due-is k f (tick-reports x) (E.eventIn s) z p v n) in
       (told-more s l k es b ∙ rw (e, d), entries-more s l k es b ∙ rw (e, d, p-is, v-is, add-one (length l)))
 
   -- and every list of records has one

@@ -25,7 +25,7 @@ Without p l = Each (λ x. p x → ⊥) l
 -- `e` is the latest of `l` that is so; `after` came after it and `before` before it
 pub record Latest {A : Type 0} (p : A → Type 0) (l after : List A) (e : A) (before : List A) : Type 0 where
   pub split : l ≡ after ++ (e ∷ before)
-  pub is : p e
+  pub so : p e
   pub none-after : Without p after
 
 -- "as their latest event says, .. and off without one"
@@ -188,7 +188,7 @@ pub data Position : List Event → ℕ → Type 0 where
 
 -- the number whose bits are the status bits
 abbrev pub Bits : Commands → ℕ → Bool → ℕ → Type 0
-Bits c run bus s = (i : ℕ) → (s / 2 ^ i % 2 ≡ 1) ↔ P.Shown c run bus i
+Bits c r b s = (i : ℕ) → (s / 2 ^ i % 2 ≡ 1) ↔ P.Shown c r b i
 
 -- "So is the status that a tick leaves ..; for it the present tick counts among those a run has passed": of a tick that comes after `h`
 pub data TickStatus (h : List Event) (s : ℕ) : Type 0 where

@@ -137,18 +137,18 @@ module _ (n : ℕ) (h : List Event) where
       let f = found-is L.Setpoint R.isSetpoint setpoint-there (each-of setpoint-back (w .now)) (w .latest) in
       rw (now, f, parameters-are h (w .parameters), same-ticks (w .after)) (le-leb _ _ (w .in-time))
 
-  pub bus-read : (b : Bool) → (busAt n h ≡ b) ↔ L.Bus n h b
-  bus-read b = (there, back)
-    where
-      there : busAt n h ≡ b → L.Bus n h b
-      there e =
-          subst (L.Bus n h) e
-          (cases (busAt n h) (λ q. subst (L.Bus n h) (sym q) (L.active (bus-found q)))
-          (λ q. subst (L.Bus n h) (sym q) (L.not-active (λ w. false≢true (sym q ∙ bus-is w)))))
+  has-bus : L.Bus n h (busAt n h)
+  has-bus =
+      cases (busAt n h)
+      (λ q. subst (L.Bus n h) (sym q) (L.active (bus-found q)))
+      (λ q. subst (L.Bus n h) (sym q) (L.not-active (λ w. false≢true (sym q ∙ bus-is w))))
 
-      back : L.Bus n h b → busAt n h ≡ b
-      back (L.active w) = bus-is w
-      back (L.not-active x) = cases (busAt n h) (λ q. absurd (x (bus-found q))) (λ q. q)
+  read-bus : (b : Bool) → L.Bus n h b → busAt n h ≡ b
+  read-bus b (L.active w) = bus-is w
+  read-bus b (L.not-active x) = cases (busAt n h) (λ q. absurd (x (bus-found q))) (λ q. q)
+
+  pub bus-read : (b : Bool) → (busAt n h ≡ b) ↔ L.Bus n h b
+  bus-read b = (λ e. subst (L.Bus n h) e has-bus, read-bus b)
 
 -- ── the run ──
 start-there : (e : Event) → L.Start e → R.isStart e ≡ true
@@ -254,7 +254,7 @@ module _ (n : ℕ) (h : List Event) where
       go (R.found after x before) w none some =
           cases (not (R.ended after) && ltb (R.ticks after + n) (runTicks (rate (R.parameters before))))
           (λ q.
-          starts-or (R.parameters before) x (w .is)
+          starts-or (R.parameters before) x (w .so)
           (λ z. none (rw q z))
           (λ r z s. some r (rw q z)
           (record {
