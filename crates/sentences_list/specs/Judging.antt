@@ -1,15 +1,15 @@
 -- Proofs: the judgement of a record, and the history that records leave.
-use mathlib.Core.Path.{_≡_, refl, sym, ap, subst, _∙_}
+use mathlib.Core.Path.{_≡_, refl, sym, subst, _∙_}
 use mathlib.Core.Logic.{_↔_}
-use mathlib.Core.Bool.{Bool, true, false}
-use mathlib.Core.List.{List, [], _∷_, _++_, map, reverse, reverseAux}
+use mathlib.Core.Bool.{true}
+use mathlib.Core.List.{List, [], _∷_, _++_, map, reverse, reverseAux, reverseAux-eq}
 use Prim.Native.Nat.{ℕ, zero, suc, _+_, _*_, _≤_}
 use native.Mathlib.Omega.{arith}
-use lib.Dec.{ltb, eqb}
+use lib.Dec.{eqb}
 use lib.ListN.{getD}
-use borrow.Author.Tests.{eqb-true, eqb-false, ne-eqb, ltb-false}
+use borrow.Author.Tests.{ne-eqb, ltb-false}
 use Rattle.numbers.specs.Numbers.{pick}
-use Rattle.numbers.specs.Laws.{cases, passed}
+use Rattle.numbers.specs.Laws.{passed}
 use Rattle.event.specs.declared.Event.{Event}
 use Rattle.event.specs.Event as E
 use Rattle.event.specs.Laws.{record-passed}
@@ -22,7 +22,7 @@ use Rattle.sentences.specs.Refusals.{same-refusal}
 use Rattle.sentences_list.specs.Paper as L
 use Rattle.sentences_list.specs.Latest.{each-left, now-read}
 use Rattle.sentences_list.specs.Values.{tool-back, fault-read, forcing-read, has-parameters, parameters-are}
-use Rattle.sentences_list.specs.Runs.{runAt, run-stands, run-is, has-run}
+use Rattle.sentences_list.specs.Runs.{run-stands, run-is, has-run}
 
 abbrev numberOf : List ℕ → List ℕ → ℕ → ℕ → ℕ → ℕ
 numberOf s q run fault forcing =
@@ -31,7 +31,8 @@ numberOf s q run fault forcing =
     ++ P.ofTheData (getD s 2 0) (getD s 3 0) (getD s 4 0) (getD s 5 0)
     ++ P.ofTheDrive q run fault forcing (getD s 2 0) (getD s 3 0) (256 * getD s 4 0 + getD s 5 0))
 
-same-number : (s : List ℕ) {q q′ : List ℕ} {r r′ f f′ g g′ : ℕ} → q ≡ q′ → r ≡ r′ → f ≡ f′ → g ≡ g′ → numberOf s q r f g ≡ numberOf s q′ r′ f′ g′
+same-number : (s : List ℕ) {q q′ : List ℕ} {r r′ f f′ g g′ : ℕ} → q ≡ q′ → r ≡ r′ → f ≡ f′ → g ≡ g′
+    → numberOf s q r f g ≡ numberOf s q′ r′ f′ g′
 same-number s a b c d = λ i. numberOf s (a i) (b i) (c i) (d i)
 
 -- ── the judgement ──
@@ -93,6 +94,10 @@ pub history-from : (l k : List (List ℕ)) → R.historyFrom (given k) l ≡ giv
 unfolding R.historyFrom
 history-from [] k = refl
 history-from (s ∷ l) k = history-from l (s ∷ k)
+
+pub history-on : (k : List (List ℕ)) (old : List Event) → L.History k old → (l : List (List ℕ)) (h : List Event)
+    → (R.historyFrom old l ≡ h) ↔ L.History (reverse l ++ k) h
+history-on k old w l h = rw (← (history-is w), history-from l k, reverseAux-eq l k) (history-read (reverse l ++ k) h)
 
 pub accepted-given : (t : C.Trace) → C.accepted t ≡ given (map (λ (m : C.Moment). m .bytes) t)
 unfolding C.accepted

@@ -1,4 +1,4 @@
--- What document 01 reads off the list of events, a second time and sentence by sentence, and that the definitions agree with it for every list.
+-- What document 01 reads off the list of events, a second time and sentence by sentence, and that the definitions agree with it.
 pub mod Paper
 pub mod Latest
 pub mod Values

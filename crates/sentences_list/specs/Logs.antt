@@ -1,8 +1,8 @@
 -- Proofs: the reports that the list decides.
 use mathlib.Core.Path.{_≡_, refl, sym, ap, subst, _∙_}
 use mathlib.Core.Logic.{_↔_}
-use mathlib.Core.Bool.{Bool, true, false, _&&_, false≢true}
-use mathlib.Core.List.{List, [], _∷_, _++_, map, reverse, reverseAux, append-nil}
+use mathlib.Core.Bool.{Bool, true, false, false≢true}
+use mathlib.Core.List.{List, [], _∷_, _++_, reverse, reverseAux, append-nil}
 use Prim.Native.Nat.{ℕ, zero, suc, _+_}
 use native.Mathlib.Omega.{arith}
 use native.Mathlib.Nat.{add-zero}
@@ -11,7 +11,7 @@ use lib.Dec.{eqb}
 use lib.ListN.{length}
 use borrow.Author.Tests.{eqb-true, eqb-false, eq-eqb, ne-eqb}
 use Rattle.numbers.specs.Numbers.{pick}
-use Rattle.numbers.specs.Laws.{cases, and-left, and-right}
+use Rattle.numbers.specs.Laws.{cases}
 use Rattle.event.specs.declared.Event.{Event}
 use Rattle.event.specs.Event as E
 use Rattle.rules.specs.Report.{Sent, silent, sent, reportDue}
@@ -60,7 +60,8 @@ unfolding stateOf
 state-cons m k = refl
 
 told-cons : (s : List ℕ) (l : List (List ℕ))
-    → toldOf (s ∷ l) ≡ pick (eqb (R.judgement (L.events (toldOf l)) s) 0) (L.told (E.eventIn s) (reportsAt (toldOf l) s) ∷ toldOf l) (toldOf l)
+    → toldOf (s ∷ l)
+    ≡ pick (eqb (R.judgement (L.events (toldOf l)) s) 0) (L.told (E.eventIn s) (reportsAt (toldOf l) s) ∷ toldOf l) (toldOf l)
 unfolding toldOf
 told-cons s l = refl
 
@@ -70,18 +71,19 @@ entryOf s l =
 
 entries-cons : (s : List ℕ) (l : List (List ℕ))
     → entriesOf (s ∷ l)
-    ≡ pick (eqb (R.judgement (L.events (toldOf l)) s) 0) (pick (reportsAt (toldOf l) s) (entryOf s l ∷ entriesOf l) (entriesOf l)) (entriesOf l)
+    ≡ pick (eqb (R.judgement (L.events (toldOf l)) s) 0) (pick (reportsAt (toldOf l) s) (entryOf s l ∷ entriesOf l) (entriesOf l))
+    (entriesOf l)
 unfolding entriesOf
 entries-cons s l = refl
 
 -- the product goes through the records in their order
 log-cons : (n : ℕ) (h : List Event) (x : G.ReportState) (s : List ℕ) (l : List (List ℕ))
-    → G.logFrom n h x (s ∷ l)
+    → (let e = E.eventIn s in
+    let rest = G.logFrom (n + 1) (e ∷ h) (G.stateAfter e h x) l in
+    G.logFrom n h x (s ∷ l)
     ≡ pick (eqb (R.judgement h s) 0)
-    (pick (G.reportsAt (E.eventIn s) h x)
-    (G.entry (n + 1) (R.positionIn (E.eventIn s ∷ h)) (R.statusIn (E.eventIn s ∷ h)) ∷ G.logFrom (n + 1) (E.eventIn s ∷ h) (G.stateAfter (E.eventIn s) h x) l)
-    (G.logFrom (n + 1) (E.eventIn s ∷ h) (G.stateAfter (E.eventIn s) h x) l))
-    (G.logFrom (n + 1) h x l)
+    (pick (G.reportsAt e h x) (G.entry (n + 1) (R.positionIn (e ∷ h)) (R.statusIn (e ∷ h)) ∷ rest) rest)
+    (G.logFrom (n + 1) h x l))
 unfolding G.logFrom
 log-cons n h x s l = refl
 
@@ -113,7 +115,8 @@ log-from : (l k : List (List ℕ))
 log-from [] k = ap (reverseAux (entriesOf k)) (log-end (length k) (L.events (toldOf k)) (stateOf (toldOf k)))
 log-from (s ∷ l) k =
     goes s l k
-    ∙ ap (λ (n : ℕ). reverseAux (entriesOf (s ∷ k)) (G.logFrom n (L.events (toldOf (s ∷ k))) (stateOf (toldOf (s ∷ k))) l)) (add-one (length k))
+    ∙ ap (λ (n : ℕ). reverseAux (entriesOf (s ∷ k)) (G.logFrom n (L.events (toldOf (s ∷ k))) (stateOf (toldOf (s ∷ k))) l))
+    (add-one (length k))
     ∙ log-from l (s ∷ k)
 
 pub log-read : (l : List (List ℕ)) → G.logIn l ≡ reverse (entriesOf (reverse l))
@@ -206,7 +209,8 @@ same-due q n p s (some lp ls) = same-due-sent q n p s lp ls
 abbrev TickReports : L.Told → Type 0
 TickReports m = m .reported ≡ true → m .event .kind ≡ 1
 
-fits-before : (after : List L.Told) (m : L.Told) (before : List L.Told) → Fits (L.events (after ++ (m ∷ before))) → Fits (m .event ∷ L.events before)
+fits-before : (after : List L.Told) (m : L.Told) (before : List L.Told) → Fits (L.events (after ++ (m ∷ before)))
+    → Fits (m .event ∷ L.events before)
 fits-before [] m before f = f
 fits-before (y ∷ after) m before (more f g) = fits-before after m before g
 
@@ -238,8 +242,8 @@ module _ (k : List L.Told) (f : Fits (L.events k)) (b : L.Each TickReports k) wh
       let g = fits-before after m before (subst (λ (u : List L.Told). Fits (L.events u)) (w .split) f) in
       let t = each-at after m before (subst (L.Each TickReports) (w .split) b) y in
       let e : stateOf k .last ≡ sent p s =
-          last-after k after m before w ∙ last-sent m before y t
-          ∙ (λ i. sent (position-is g x i) (tick-status-is (m .event) (L.events before) t (fit (rest-fits g)) s z i)) in
+      last-after k after m before w ∙ last-sent m before y t
+      ∙ (λ i. sent (position-is g x i) (tick-status-is (m .event) (L.events before) t (fit (rest-fits g)) s z i)) in
       subst (Same 1 p s) (sym e) (some p s)
   last-is r p s (L.restart {after = after} {m = m} {before = before} w y) =
       subst (Same 0 0 0) (sym (last-after k after m before w ∙ last-cleared m before (w .so) y)) none
@@ -258,7 +262,8 @@ module _ (k : List L.Told) (f : Fits (L.events k)) (b : L.Each TickReports k) wh
           (λ y.
           let u = fits-before after m before (subst (λ (u : List L.Told). Fits (L.events u)) (w .split) f) in
           let t = each-at after m before (subst (L.Each TickReports) (w .split) b) y in
-          g 1 _ _ (L.report w y (position-read (m .event ∷ L.events before) u _ .0 refl) (has-tick-status (m .event) (L.events before) t (fit (rest-fits u)))))
+          let s = has-tick-status (m .event) (L.events before) t (fit (rest-fits u)) in
+          g 1 _ _ (L.report w y (position-read (m .event ∷ L.events before) u _ .0 refl) s))
           (λ y. g 0 0 0 (L.restart w y))
 
   -- step 4
@@ -313,7 +318,9 @@ module _ (fits : (h : List Event) → L.Accepted h → Fits h) where
 
     entries-more : entriesOf (s ∷ l)
         ≡ pick (eqb (R.judgement (L.events k) s) 0)
-        (pick (reportsAt k s) (G.entry (length l + 1) (R.positionIn (E.eventIn s ∷ L.events k)) (R.statusIn (E.eventIn s ∷ L.events k)) ∷ es) es) es
+        (pick (reportsAt k s)
+        (G.entry (length l + 1) (R.positionIn (E.eventIn s ∷ L.events k)) (R.statusIn (E.eventIn s ∷ L.events k)) ∷ es) es)
+        es
     entries-more = entries-cons s l ∙ rw (x .0, x .1)
 
   start-both : Both [] [] []
@@ -334,14 +341,15 @@ module _ (fits : (h : List Event) → L.Accepted h → Fits h) where
       (told-more s l k es b ∙ rw (e, d), entries-more s l k es b ∙ rw (e, d))
   log-both (L.silent {l = l} {k = k} {es = es} {s = s} {p = p} {v = v} x j z y w n) =
       let b = log-both x in
+      let r = tick-reports x in
       let e = judgement-is (L.events k) s 0 j in
       let f = fits (L.events k) (l, log-history x) in
       let g = fits (E.eventIn s ∷ L.events k) (s ∷ l, L.accepted (log-history x) j) in
       let p-is = position-is g y in
       let v-is = tick-status-is (E.eventIn s) (L.events k) z (fit f) v w in
       let d : reportsAt k s ≡ false =
-          rw (p-is, v-is, eq-eqb (E.eventIn s .kind) 1 z)
-          (cases (dueNow k f (tick-reports x) (E.eventIn s) z p v) (λ q. absurd (n (has-due k f (tick-reports x) (E.eventIn s) z p v q))) (λ q. q)) in
+      rw (p-is, v-is, eq-eqb (E.eventIn s .kind) 1 z)
+      (cases (dueNow k f r (E.eventIn s) z p v) (λ q. absurd (n (has-due k f r (E.eventIn s) z p v q))) (λ q. q)) in
       (told-more s l k es b ∙ rw (e, d), entries-more s l k es b ∙ rw (e, d))
   log-both (L.sent {l = l} {k = k} {es = es} {s = s} {p = p} {v = v} x j z y w n) =
       let b = log-both x in
@@ -354,10 +362,13 @@ module _ (fits : (h : List Event) → L.Accepted h → Fits h) where
       (told-more s l k es b ∙ rw (e, d), entries-more s l k es b ∙ rw (e, d, p-is, v-is, add-one (length l)))
 
   -- and every list of records has one
-  log-more : (s : List ℕ) (l : List (List ℕ)) (k : List L.Told) (es : List G.Entry) → L.Log l k es → (k′ : List L.Told) × (es′ : List G.Entry) × L.Log (s ∷ l) k′ es′
+  abbrev Some : List (List ℕ) → Type 0
+  Some l = (k : List L.Told) × (es : List G.Entry) × L.Log l k es
+
+  log-more : (s : List ℕ) (l : List (List ℕ)) (k : List L.Told) (es : List G.Entry) → L.Log l k es → Some (s ∷ l)
   log-more s l k es x = go (R.judgement (L.events k) s) refl
     where
-      taken : R.judgement (L.events k) s ≡ 0 → E.eventIn s .kind ≡ 1 → (k′ : List L.Told) × (es′ : List G.Entry) × L.Log (s ∷ l) k′ es′
+      taken : R.judgement (L.events k) s ≡ 0 → E.eventIn s .kind ≡ 1 → Some (s ∷ l)
       taken e z =
           let j = has-judgement (L.events k) s 0 e in
           let f = fits (L.events k) (l, log-history x) in
@@ -366,12 +377,13 @@ module _ (fits : (h : List Event) → L.Accepted h → Fits h) where
           let y = position-read (E.eventIn s ∷ L.events k) g (R.positionIn (E.eventIn s ∷ L.events k)) .0 refl in
           let w = has-tick-status (E.eventIn s) (L.events k) z (fit f) in
           let r = tick-reports x in
-          let q = dueNow k f r (E.eventIn s) z (R.positionIn h) (R.statusIn h) in
           cases (dueNow k f r (E.eventIn s) z (R.positionIn h) (R.statusIn h))
-          (λ d. (L.told (E.eventIn s) true ∷ k, G.entry (suc (length l)) (R.positionIn h) (R.statusIn h) ∷ es, L.sent x j z y w (has-due k f r (E.eventIn s) z _ _ d)))
+          (λ d.
+          let due = has-due k f r (E.eventIn s) z _ _ d in
+          (L.told (E.eventIn s) true ∷ k, G.entry (suc (length l)) (R.positionIn h) (R.statusIn h) ∷ es, L.sent x j z y w due))
           (λ d. (L.told (E.eventIn s) false ∷ k, es, L.silent x j z y w (λ u. false≢true (sym d ∙ due-is k f r (E.eventIn s) z _ _ u))))
 
-      go : (n : ℕ) → R.judgement (L.events k) s ≡ n → (k′ : List L.Told) × (es′ : List G.Entry) × L.Log (s ∷ l) k′ es′
+      go : (n : ℕ) → R.judgement (L.events k) s ≡ n → Some (s ∷ l)
       go (suc n) e = (k, es, L.refused x (has-judgement (L.events k) s (suc n) e))
       go zero e =
           cases (eqb (E.eventIn s .kind) 1)

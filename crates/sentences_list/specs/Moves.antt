@@ -3,12 +3,12 @@ use mathlib.Core.Path.{_≡_, refl, sym, ap, subst, _∙_}
 use mathlib.Core.Logic.{_↔_}
 use mathlib.Core.Bool.{Bool, true, false, _||_}
 use mathlib.Core.List.{List, [], _∷_}
-use Prim.Native.Nat.{ℕ, zero, suc, _+_, _*_, _/_, _%_, _^_, _≤_, _<_}
+use Prim.Native.Nat.{ℕ, zero, suc, _+_, _/_, _%_, _^_, _≤_}
 use native.Mathlib.Omega.{arith}
 use native.Mathlib.Nat.{div-one, div-div-eq-div-mul, pow-succ'}
 use lib.Dec.{eqb}
 use lib.ListN.{getD}
-use borrow.Author.Tests.{eqb-true, eqb-false, eq-eqb, ne-eqb, not-true}
+use borrow.Author.Tests.{eqb-true, eqb-false, ne-eqb, not-true}
 use Rattle.numbers.specs.Numbers.{pick}
 use Rattle.numbers.specs.Laws.{cases}
 use Rattle.table.specs.Table.{low, high, backupMode, rate}
@@ -26,7 +26,8 @@ use Rattle.sentences.specs.Ticks.{same-move}
 use Rattle.sentences.specs.Exists.{some-brought, some-move}
 use Rattle.sentences_list.specs.Paper as L
 use Rattle.sentences_list.specs.Values.{commands-are, has-commands, parameters-are, has-parameters}
-use Rattle.sentences_list.specs.Runs.{busAt, bus-stands, bus-at-tick, bus-read, runAt, run-stands, run-at-tick, run-read, run-is, run-at-most, has-run, said-tick}
+use Rattle.sentences_list.specs.Runs.{busAt, bus-stands, bus-at-tick, bus-read, said-tick}
+use Rattle.sentences_list.specs.Runs.{runAt, run-stands, run-at-tick, run-is, run-at-most, has-run}
 
 -- what holds of the histories that records leave
 pub record Fit (h : List Event) : Type 0 where
@@ -75,7 +76,8 @@ rank-path : {c c′ : Commands} {r r′ : ℕ} {b b′ : Bool} → c ≡ c′ �
     → Rank.rulingRank (Rank.activeByte c r b) ≡ firstThatFits (P.commanders c′ r′ b′)
 rank-path {c′ = c′} {r′ = r′} {b′ = b′} x y z = (λ i. Rank.rulingRank (Rank.activeByte (x i) (y i) (z i))) ∙ same-ruling c′ r′ b′
 
-module _ (t : Event) (h : List Event) (k : t .kind ≡ 1) (f : Fit h) {c : Commands} {run : ℕ} {bus : Bool} {q : List ℕ} (w : L.Read 0 1 h c run bus q) where
+module _ (t : Event) (h : List Event) (k : t .kind ≡ 1) (f : Fit h) {c : Commands} {run : ℕ} {bus : Bool} {q : List ℕ}
+    (w : L.Read 0 1 h c run bus q) where
   pub rank-is : R.rankAt t h ≡ firstThatFits (P.commanders c run bus)
   unfolding R.rankAt
   rank-is = rank-path (read-commands 0 1 h f w) (run-stands h ∙ read-run 0 1 h f w) (bus-at-tick t h k ∙ read-bus 0 1 h f w)
@@ -125,11 +127,13 @@ pub ruling-read : (h : List Event) → Fit h → {c : Commands} {run : ℕ} {bus
 unfolding R.rulingSourceIn
 ruling-read h f {c} {run} {bus} w s =
     let n = firstThatFits (P.commanders c run bus) in
-    let e : R.rulingSourceIn h ≡ Rank.sourceAt (firstThatFits (P.commanders c run bus)) = ap Rank.sourceAt (rank-path (read-commands 0 0 h f w) (run-stands h ∙ read-run 0 0 h f w) (bus-stands h ∙ read-bus 0 0 h f w)) in
+    let r = rank-path (read-commands 0 0 h f w) (run-stands h ∙ read-run 0 0 h f w) (bus-stands h ∙ read-bus 0 0 h f w) in
+    let e : R.rulingSourceIn h ≡ Rank.sourceAt (firstThatFits (P.commanders c run bus)) = ap Rank.sourceAt r in
     (λ x. subst (λ (y : Rank.Source). L.Ranked y n) (sym e ∙ x) (source-has n (rank-most c run bus)), λ x. e ∙ source-is s n x)
 
 -- ── the target: there is one ──
-module _ (c : Commands) (run : ℕ) (bus : Bool) (p : ℕ) (q : List ℕ) (most : run ≤ 3) (mode : P.BackupMode q ≤ 1) (stored : c .stored ≤ 1) where
+module _ (c : Commands) (run : ℕ) (bus : Bool) (p : ℕ) (q : List ℕ) (most : run ≤ 3) (mode : P.BackupMode q ≤ 1)
+    (stored : c .stored ≤ 1) where
   abbrev Aim : ℕ → Type 0
   Aim rank = (t : ℕ) × P.Target c run p q rank t
 
@@ -159,7 +163,8 @@ module _ (c : Commands) (run : ℕ) (bus : Bool) (p : ℕ) (q : List ℕ) (most 
   some-target =
       choose-elim Aim (c .fault is 1) (λ e. (p, P.fault))
       (λ e. choose-elim Aim (c .forcing is 2 || c .forcing is 3)
-      (λ e. one (c .forcing is 2) (c .forcing is 3) e (λ g. (0, P.forced-to-0 (eqb-true _ _ g))) (λ g. (255, P.forced-to-255 (eqb-true _ _ g))))
+      (λ e.
+      one (c .forcing is 2) (c .forcing is 3) e (λ g. (0, P.forced-to-0 (eqb-true _ _ g))) (λ g. (255, P.forced-to-255 (eqb-true _ _ g))))
       (λ e. choose-elim Aim (run isNot 0)
       (λ e. run-aim (eqb-false _ _ (not-true (eqb run 0) e)))
       (λ e. choose-elim Aim (c .hand is 1) (λ e. let x = brought-in (c .handpos) in (x .0, P.hand (x .1)))
@@ -178,7 +183,8 @@ stored-most h = go (R.latest R.isSetpoint (R.current h))
 
 pub has-target : (h : List Event) → Fit h → (p : ℕ) → (t : ℕ) × L.Target h p t
 has-target h f p =
-    let x = some-target (R.commandsIn h) (runAt 0 h) (busAt 1 h) p (R.parameters h) (run-at-most 0 h (runAt 0 h) (has-run 0 h)) (f .mode) (stored-most h) in
+    let most = run-at-most 0 h (runAt 0 h) (has-run 0 h) in
+    let x = some-target (R.commandsIn h) (runAt 0 h) (busAt 1 h) p (R.parameters h) most (f .mode) (stored-most h) in
     (x .0, L.target (has-read 0 1 h f) (x .1))
 
 pub target-is : (t : Event) (h : List Event) → t .kind ≡ 1 → Fit h → (p x : ℕ) → L.Target h p x → R.targetFrom p t h ≡ x
@@ -257,7 +263,8 @@ pub status-at-tick : (t : Event) (h : List Event) → t .kind ≡ 1 → Fit h �
     → L.Read 1 1 h c run bus q → R.statusIn (t ∷ h) ≡ status c run bus
 unfolding R.statusIn
 status-at-tick t h k f w =
-    status-path (commands-tick t h k ∙ read-commands 1 1 h f w) (run-at-tick t h k ∙ read-run 1 1 h f w) (bus-at-tick t h k ∙ read-bus 1 1 h f w)
+    status-path (commands-tick t h k ∙ read-commands 1 1 h f w) (run-at-tick t h k ∙ read-run 1 1 h f w)
+    (bus-at-tick t h k ∙ read-bus 1 1 h f w)
 
 -- numbers with the same bits are the same
 half-bit : (x i : ℕ) → x / 2 ^ suc i % 2 ≡ x / 2 / 2 ^ i % 2
@@ -274,7 +281,7 @@ same-bits (suc n) x y a b h =
     let there : x % 2 ≡ 1 → y % 2 ≡ 1 = λ e. sym v ∙ h 0 .0 (u ∙ e) in
     let back : y % 2 ≡ 1 → x % 2 ≡ 1 = λ e. sym u ∙ h 0 .1 (v ∙ e) in
     let rest = same-bits n (x / 2) (y / 2) (omega arith) (omega arith)
-        (λ i. (λ e. sym (half-bit y i) ∙ h (suc i) .0 (half-bit x i ∙ e), λ e. sym (half-bit x i) ∙ h (suc i) .1 (half-bit y i ∙ e))) in
+    (λ i. (λ e. sym (half-bit y i) ∙ h (suc i) .0 (half-bit x i ∙ e), λ e. sym (half-bit x i) ∙ h (suc i) .1 (half-bit y i ∙ e))) in
     cases (eqb (x % 2) 1)
     (λ e. let p = eqb-true (x % 2) 1 e in let q = there p in omega arith)
     (λ e. let p = eqb-false (x % 2) 1 e in

@@ -121,8 +121,8 @@ pub data Bus (present : ℕ) (h : List Event) : Bool → Type 0 where
   active : BusActive present h → Bus present h true
   not-active : (BusActive present h → ⊥) → Bus present h false
 
--- where a run may start: at a calibration or a restart. A restart with StartSynchronization 0 starts none, and what stood before it does not
--- count: "after the last restart", "Restart .. clears all else".
+-- where a run may start: at a calibration or a restart. A restart with StartSynchronization 0 starts none, and no start before it counts:
+-- "after the last restart", "Restart .. clears all else".
 pub data Start (e : Event) : Type 0 where
   calibration : e .kind ≡ 6 → Start e
   restart : e .kind ≡ 9 → Start e
@@ -240,14 +240,16 @@ pub data SetsSince (m : Told) : Type 0 where
 
 -- "Since rises by one" at a tick: the ticks after the latest report or restart, or from the beginning on
 pub data Since (k : List Told) (n : ℕ) : Type 0 where
-  after-that : {after : List Told} {m : Told} {before : List Told} → Latest SetsSince k after m before → length (ticks (events after)) ≡ n → Since k n
+  after-that : {after : List Told} {m : Told} {before : List Told} → Latest SetsSince k after m before
+      → length (ticks (events after)) ≡ n → Since k n
   from-the-beginning : Without SetsSince k → length (ticks (events k)) ≡ n → Since k n
 
 -- the last report, "no report since the last restart, or none at all" being none; "the last report when there is none" reads 0
 pub data LastReport (k : List Told) : ℕ → ℕ → ℕ → Type 0 where
   report : {after : List Told} {m : Told} {before : List Told} {p s : ℕ} → Latest SetsSince k after m before → m .reported ≡ true
       → Position (m .event ∷ events before) p → TickStatus (events before) s → LastReport k 1 p s
-  restart : {after : List Told} {m : Told} {before : List Told} → Latest SetsSince k after m before → m .reported ≡ false → LastReport k 0 0 0
+  restart : {after : List Told} {m : Told} {before : List Told} → Latest SetsSince k after m before → m .reported ≡ false
+      → LastReport k 0 0 0
   none : Without SetsSince k → LastReport k 0 0 0
 
 -- step 4 at a tick that comes after `k` and leaves the position `p` and the status `s`, since having risen by one
@@ -265,11 +267,17 @@ pub record ReportDue (k : List Told) (p s : ℕ) : Type 0 where
 -- records, the latest first; their accepted events with whether each reported; the reports, each with the number of its record from 1
 pub data Log : List (List ℕ) → List Told → List Entry → Type 0 where
   start : Log [] [] []
-  refused : {l : List (List ℕ)} {k : List Told} {es : List Entry} {s : List ℕ} {n : ℕ} → Log l k es → Judged (events k) s (suc n) → Log (s ∷ l) k es
-  other : {l : List (List ℕ)} {k : List Told} {es : List Entry} {s : List ℕ} → Log l k es → Judged (events k) s 0 → (P.eventIn s .kind ≡ 1 → ⊥)
+  refused : {l : List (List ℕ)} {k : List Told} {es : List Entry} {s : List ℕ} {n : ℕ} → Log l k es
+      → Judged (events k) s (suc n)
+      → Log (s ∷ l) k es
+  other : {l : List (List ℕ)} {k : List Told} {es : List Entry} {s : List ℕ} → Log l k es
+      → Judged (events k) s 0 → (P.eventIn s .kind ≡ 1 → ⊥)
       → Log (s ∷ l) (told (P.eventIn s) false ∷ k) es
-  silent : {l : List (List ℕ)} {k : List Told} {es : List Entry} {s : List ℕ} {p v : ℕ} → Log l k es → Judged (events k) s 0 → P.eventIn s .kind ≡ 1
-      → Position (P.eventIn s ∷ events k) p → TickStatus (events k) v → (ReportDue k p v → ⊥) → Log (s ∷ l) (told (P.eventIn s) false ∷ k) es
-  sent : {l : List (List ℕ)} {k : List Told} {es : List Entry} {s : List ℕ} {p v : ℕ} → Log l k es → Judged (events k) s 0 → P.eventIn s .kind ≡ 1
-      → Position (P.eventIn s ∷ events k) p → TickStatus (events k) v → ReportDue k p v
+  silent : {l : List (List ℕ)} {k : List Told} {es : List Entry} {s : List ℕ} {p v : ℕ} → Log l k es
+      → Judged (events k) s 0 → P.eventIn s .kind ≡ 1 → Position (P.eventIn s ∷ events k) p → TickStatus (events k) v
+      → (ReportDue k p v → ⊥)
+      → Log (s ∷ l) (told (P.eventIn s) false ∷ k) es
+  sent : {l : List (List ℕ)} {k : List Told} {es : List Entry} {s : List ℕ} {p v : ℕ} → Log l k es
+      → Judged (events k) s 0 → P.eventIn s .kind ≡ 1 → Position (P.eventIn s ∷ events k) p → TickStatus (events k) v
+      → ReportDue k p v
       → Log (s ∷ l) (told (P.eventIn s) true ∷ k) (entry (suc (length l)) p v ∷ es)

@@ -1,33 +1,31 @@
 -- Proofs: ticks, the bus and the run.
 use mathlib.Core.Path.{_≡_, refl, sym, ap, subst, _∙_}
 use mathlib.Core.Logic.{_↔_}
-use mathlib.Core.Bool.{Bool, true, false, not, _&&_, _||_, or-true, false≢true}
-use mathlib.Core.List.{List, [], _∷_, _++_}
-use Prim.Native.Nat.{ℕ, suc, _+_, _≤_, _<_}
+use mathlib.Core.Bool.{Bool, true, false, not, _&&_, _||_, false≢true}
+use mathlib.Core.List.{List, [], _∷_}
+use Prim.Native.Nat.{ℕ, _+_, _≤_}
 use native.Mathlib.Omega.{arith}
 use native.Mathlib.Nat.{add-zero}
 use lib.Dec.{leb, ltb, eqb}
 use lib.ListN.{length}
-use borrow.Author.Tests.{eqb-true, eqb-false, eq-eqb, ne-eqb, leb-true, le-leb, ltb-true, lt-ltb, not-true}
+use borrow.Author.Tests.{eqb-true, leb-true, le-leb, ltb-true, lt-ltb, not-true}
 use Rattle.numbers.specs.Numbers.{pick, on}
-use Rattle.numbers.specs.Laws.{cases, and-left, and-right, and-intro, or-left, or-right, pick-elim}
+use Rattle.numbers.specs.Laws.{cases, and-left, and-right, or-left, or-right}
 use Rattle.table.specs.declared.Row.{Row}
 use Rattle.table.specs.Table.{rows, timeout, rate, startSynchronization}
 use Rattle.event.specs.declared.Event.{Event}
 use Rattle.event.specs.Event.{valueOf}
 use Rattle.motion.specs.Motion.{runTicks}
-use Rattle.rules.specs.Rank.{startRun}
 use Rattle.history.specs.Readings as R
-use Rattle.sentences.specs.Words.{_is_}
-use Rattle.sentences.specs.Paper as P
 use Rattle.sentences.specs.Refusals.{same-choice}
 use Rattle.sentences.specs.Shows.{one}
 use Rattle.sentences_list.specs.Paper as L
-use Rattle.sentences_list.specs.Latest.{each-of, latest-cons, Is, is-latest, found-is, nothing-is, kind-there, kind-back, now-read}
+use Rattle.sentences_list.specs.Latest.{each-of, latest-cons, Is, is-latest, found-is, nothing-is, now-read}
 use Rattle.sentences_list.specs.Values.{setpoint-there, setpoint-back, has-parameters, parameters-are}
 
 -- how many ticks
-counted : (b : Bool) (e : Event) (l : List Event) (n : ℕ) → n ≡ length (L.ticks l) → pick b (n + 1) n ≡ length (pick b (e ∷ L.ticks l) (L.ticks l))
+counted : (b : Bool) (e : Event) (l : List Event) (n : ℕ) → n ≡ length (L.ticks l)
+    → pick b (n + 1) n ≡ length (pick b (e ∷ L.ticks l) (L.ticks l))
 counted true e l n h = omega arith
 counted false e l n h = h
 
@@ -35,7 +33,8 @@ pub same-ticks : (l : List Event) → R.ticks l ≡ length (L.ticks l)
 unfolding R.ticks
 same-ticks [] = refl
 same-ticks (e ∷ l) =
-    counted (R.isTick e) e l (R.ticks l) (same-ticks l) ∙ ap (λ (x : List Event). length x) (same-choice (R.isTick e) (e ∷ L.ticks l) (L.ticks l))
+    counted (R.isTick e) e l (R.ticks l) (same-ticks l)
+    ∙ ap (λ (x : List Event). length x) (same-choice (R.isTick e) (e ∷ L.ticks l) (L.ticks l))
 
 ticks-one : (t : Event) (l : List Event) → t .kind ≡ 1 → R.ticks (t ∷ l) ≡ R.ticks l + 1
 unfolding R.ticks
@@ -74,7 +73,9 @@ module _ (t : Event) (k : t .kind ≡ 1) where
     where
       go : (l : List Row) → R.parametersOf (t ∷ h) l ≡ R.parametersOf h l
       go [] = refl
-      go (r ∷ l) = rw (below-tick (R.isWrite (r .number)) h (rw k)) (rw (value-tick (r .fresh) valueOf (R.latest (R.isWrite (r .number)) h), go l))
+      go (r ∷ l) =
+          rw (below-tick (R.isWrite (r .number)) h (rw k))
+          (rw (value-tick (r .fresh) valueOf (R.latest (R.isWrite (r .number)) h), go l))
 
 -- ── the bus ──
 pub age-is : (h now : List Event) → L.AfterRestart h now → {after : List Event} {e : Event} {before : List Event}
@@ -169,7 +170,9 @@ ends-back e q =
     (λ f. L.fault-1 (eqb-true _ _ (and-left (eqb (e .kind) 7) _ f)) (eqb-true _ _ (and-right (eqb (e .kind) 7) _ f)))
     (λ f.
     let k = eqb-true (e .kind) 4 (and-left (eqb (e .kind) 4) _ f) in
-    one (eqb (e .a) 2) (eqb (e .a) 3) (and-right (eqb (e .kind) 4) _ f) (λ a. L.forcing-2 k (eqb-true _ _ a)) (λ a. L.forcing-3 k (eqb-true _ _ a)))
+    one (eqb (e .a) 2) (eqb (e .a) 3) (and-right (eqb (e .kind) 4) _ f)
+    (λ a. L.forcing-2 k (eqb-true _ _ a))
+    (λ a. L.forcing-3 k (eqb-true _ _ a)))
 
 none-ended : (l : List Event) → L.Without L.EndsRun l → R.ended l ≡ false
 unfolding R.ended
@@ -182,7 +185,8 @@ ended-none : (l : List Event) → R.ended l ≡ false → L.Without L.EndsRun l
 unfolding R.ended
 ended-none [] q = L.none
 ended-none (e ∷ l) q =
-    L.more (λ x. false≢true (sym (or-left (R.endsRun e) (R.ended l) q) ∙ ends-there e x)) (ended-none l (or-right (R.endsRun e) (R.ended l) q))
+    L.more (λ x. false≢true (sym (or-left (R.endsRun e) (R.ended l) q) ∙ ends-there e x))
+    (ended-none l (or-right (R.endsRun e) (R.ended l) q))
 
 abbrev runOf : ℕ → R.Found → ℕ
 runOf n R.nothing = 0
@@ -227,7 +231,8 @@ run-most q e r (L.calibration k) = omega arith
 run-most q e r (L.sync-close k s) = omega arith
 run-most q e r (L.sync-open k s) = omega arith
 
-starts-or : {A : Type 0} (q : List ℕ) (e : Event) → L.Start e → (R.startedBy e q ≡ 0 → A) → ((r : ℕ) → R.startedBy e q ≡ r → L.Starts q e r → A) → A
+starts-or : {A : Type 0} (q : List ℕ) (e : Event) → L.Start e → (R.startedBy e q ≡ 0 → A)
+    → ((r : ℕ) → R.startedBy e q ≡ r → L.Starts q e r → A) → A
 starts-or q e (L.calibration k) f g = g 1 (rw k) (L.calibration k)
 starts-or q e (L.restart k) f g =
     cases (eqb (startSynchronization q) 1)

@@ -1,11 +1,11 @@
 -- The page to read: document 01, 'Who commands', "Read off the list of events ..", each sentence a theorem for every list. On one side the
 -- product's definition, on the other the sentence as `Paper` says it a second time. What ends in `↔` fixes the reading: whatever fits the
 -- sentence is what is read, and what is read fits it.
-use mathlib.Core.Path.{_≡_, refl, sym, subst, _∙_}
+use mathlib.Core.Path.{_≡_, subst}
 use mathlib.Core.Logic.{_↔_}
-use mathlib.Core.Bool.{Bool, true}
-use mathlib.Core.List.{List, [], _∷_, map, reverse}
-use Prim.Native.Nat.{ℕ, suc, _/_, _%_, _^_}
+use mathlib.Core.Bool.{Bool}
+use mathlib.Core.List.{List, [], _∷_, _++_, map, reverse}
+use Prim.Native.Nat.{ℕ, _/_, _%_, _^_}
 use lib.ListN.{length}
 use Rattle.table.specs.declared.Row.{Row}
 use Rattle.event.specs.declared.Event.{Event}
@@ -81,8 +81,8 @@ pub ticks : (l : List Event) → R.ticks l ≡ length (L.ticks l)
 ticks l = Runs.same-ticks l
 
 -- the ticks that followed the setpoint
-pub setpoint-age : (h now after : List Event) (e : Event) (before : List Event) → L.AfterRestart h now → L.Latest L.Setpoint now after e before
-    → R.setpointAge h ≡ length (L.ticks after)
+pub setpoint-age : (h now after : List Event) (e : Event) (before : List Event) → L.AfterRestart h now
+    → L.Latest L.Setpoint now after e before → R.setpointAge h ≡ length (L.ticks after)
 setpoint-age h now after e before a w = Runs.age-is h now a w
 
 pub no-setpoint-age : (h now : List Event) → L.AfterRestart h now → L.Without L.Setpoint now → R.setpointAge h ≡ 0
@@ -96,11 +96,13 @@ bus-at-tick t h k b = rw (Runs.bus-at-tick t h k) (Runs.bus-read 1 h b)
 pub bus : (h : List Event) (b : Bool) → (R.busIn h ≡ b) ↔ L.Bus 0 h b
 bus h b = rw (Runs.bus-stands h) (Runs.bus-read 0 h b)
 
--- "A run is active if after its latest start .. fewer than K ticks passed before the present event"; "the present tick counts among those a run
--- has passed"
+-- "A run is active if after its latest start (a restart with StartSynchronization 1 or 2 counts) no fault 1 or forcing 2 or 3 came and
+-- fewer than K ticks passed before the present event, K taken from the Rate at that start. Calibration runs toward 0, a restart's run as
+-- StartSynchronization stood then."
 pub run : (h : List Event) (r : ℕ) → (R.runIn h ≡ r) ↔ L.Run 0 h r
 run h r = rw (Runs.run-stands h) (Runs.run-read 0 h r)
 
+-- "for it the present tick counts among those a run has passed"
 pub run-with-tick : (t : Event) (h : List Event) → t .kind ≡ 1 → (r : ℕ) → (R.runIn (t ∷ h) ≡ r) ↔ L.Run 1 h r
 run-with-tick t h k r = rw (Runs.run-at-tick t h k) (Runs.run-read 1 h r)
 
@@ -110,9 +112,14 @@ run-with-tick t h k r = rw (Runs.run-at-tick t h k) (Runs.run-read 1 h r)
 pub judgement : (h : List Event) (s : List ℕ) (n : ℕ) → (R.judgement h s ≡ n) ↔ L.Judged h s n
 judgement h s n = (Judging.has-judgement h s n, Judging.judgement-is h s n)
 
--- "accepted ones only": of records in their order, and of the records of a trace, the latest first
+-- "accepted ones only": of records in their order, also after records `k` that left the history `old`, and of the records of a trace, the
+-- latest first
 pub history : (l : List (List ℕ)) (h : List Event) → (R.historyOf l ≡ h) ↔ L.History (reverse l) h
 history l h = rw (Judging.history-from l []) (Judging.history-read (reverse l) h)
+
+pub history-on : (k : List (List ℕ)) (old : List Event) → L.History k old → (l : List (List ℕ)) (h : List Event)
+    → (R.historyFrom old l ≡ h) ↔ L.History (reverse l ++ k) h
+history-on k old w l h = Judging.history-on k old w l h
 
 pub accepted : (t : C.Trace) (h : List Event) → (C.accepted t ≡ h) ↔ L.History (map (λ (m : C.Moment). m .bytes) t) h
 accepted t h = rw (Judging.accepted-given t) (Judging.history-read (map (λ (m : C.Moment). m .bytes) t) h)

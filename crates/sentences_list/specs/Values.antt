@@ -1,12 +1,12 @@
 -- Proofs: the commands and the parameters.
-use mathlib.Core.Path.{_≡_, refl, sym, ap, _∙_}
+use mathlib.Core.Path.{_≡_, refl, _∙_}
 use mathlib.Core.Logic.{_↔_}
-use mathlib.Core.Bool.{Bool, true, false, not, _&&_, _||_, or-true, false≢true}
-use mathlib.Core.List.{List, [], _∷_, _++_, map}
-use Prim.Native.Nat.{ℕ, _*_, _+_, _≤_}
+use mathlib.Core.Bool.{Bool, true, _&&_}
+use mathlib.Core.List.{List, [], _∷_}
+use Prim.Native.Nat.{ℕ, _≤_}
 use native.Mathlib.Omega.{arith}
 use lib.Dec.{eqb}
-use borrow.Author.Tests.{eqb-true, eqb-false, eq-eqb, ne-eqb, not-true}
+use borrow.Author.Tests.{eqb-true, eqb-false, eq-eqb, not-true}
 use Rattle.numbers.specs.Numbers.{pick, on, bit}
 use Rattle.numbers.specs.Laws.{cases, and-left, and-right, and-intro}
 use Rattle.table.specs.declared.Row.{Row}
@@ -74,8 +74,8 @@ module _ (h now : List Event) (a : L.AfterRestart h now) (v : ℕ) where
   pub hand-value-read : (R.handValue h ≡ v) ↔ L.LatestSays (L.OfKind 5) L.hand-value 0 now v
   unfolding R.handValue
   hand-value-read =
-      said (L.OfKind 5) R.isHand (kind-there 5) (λ e. pick (on (e .a)) (e .b) 0) L.hand-value (λ e. same-choice (on (e .a)) (e .b) 0) h now a
-      (each-of (kind-back 5) now) v
+      said (L.OfKind 5) R.isHand (kind-there 5) (λ e. pick (on (e .a)) (e .b) 0) L.hand-value
+      (λ e. same-choice (on (e .a)) (e .b) 0) h now a (each-of (kind-back 5) now) v
 
   pub setpoint-read : (R.setpointIn h ≡ v) ↔ L.LatestSays L.Setpoint (λ e. 1) 0 now v
   unfolding R.setpointIn
