@@ -1,5 +1,6 @@
 -- Document 01, 'Who commands', "Read off the list of events (accepted ones only, after the last restart): ..", sentence by sentence in a
--- second form. A history is the accepted events, the latest first: in `after ++ (e ∷ before)` the events of `after` came after `e`.
+-- second form, in which no definition stands that is compared. A history is the accepted events, the latest first: in
+-- `after ++ (e ∷ before)` the events of `after` came after `e`.
 use mathlib.Core.Path.{_≡_}
 use mathlib.Core.Logic.{_↔_}
 use mathlib.Core.Bool.{Bool, true, false}
@@ -10,7 +11,7 @@ use Rattle.event.specs.declared.Event.{Event}
 use Rattle.motion.specs.Motion.{toPosition, runTicks}
 use Rattle.rules.specs.declared.Commands.{Commands}
 use Rattle.rules.specs.Rank as R
-use Rattle.history.specs.Log.{Entry, entry}
+use Rattle.history.specs.Log.{Entry}
 use Rattle.sentences.specs.Words.{_is_, choose, firstThatFits}
 use Rattle.sentences.specs.Paper as P
 
@@ -52,7 +53,7 @@ pub data Setpoint (e : Event) : Type 0 where
   kind-2 : e .kind ≡ 2 → Setpoint e
   command-0 : e .kind ≡ 3 → e .c ≡ 0 → Setpoint e
 
--- "7 fault: a = 1 present, 0 gone.", "4 forcing, a ..", "5 hand: a = 1 on, with value b; a = 0 off"
+-- what an event says. "4 forcing, a ..", "5 hand: a = 1 on, with value b; a = 0 off", "7 fault: a = 1 present, 0 gone."
 abbrev pub a-of : Event → ℕ
 a-of e = e .a
 
@@ -71,7 +72,7 @@ abbrev pub setpoint-value : Event → ℕ
 setpoint-value e = choose (e .kind is 2) (e .a) (toPosition (e .b))
 
 -- fault, forcing, hand, tool and setpoint of a history; "what is absent reads 0"
-pub record Commanded (h : List Event) (c : Commands) : Type 0 where
+pub record CommandsRead (h : List Event) (c : Commands) : Type 0 where
   pub now : List Event
   pub after-restart : AfterRestart h now
   pub fault : LatestSays (OfKind 7) a-of 0 now (c .fault)
@@ -159,7 +160,7 @@ pub data Run (present : ℕ) (h : List Event) : ℕ → Type 0 where
 
 -- what a history gives, `passed` present ticks counted among those that a run has passed and `followed` among those after the setpoint
 pub record Read (passed followed : ℕ) (h : List Event) (c : Commands) (run : ℕ) (bus : Bool) (q : List ℕ) : Type 0 where
-  pub commands : Commanded h c
+  pub commands : CommandsRead h c
   pub running : Run passed h run
   pub bus-active : Bus followed h bus
   pub parameters : Parameters h q
@@ -280,4 +281,4 @@ pub data Log : List (List ℕ) → List Told → List Entry → Type 0 where
   sent : {l : List (List ℕ)} {k : List Told} {es : List Entry} {s : List ℕ} {p v : ℕ} → Log l k es
       → Judged (events k) s 0 → P.eventIn s .kind ≡ 1 → Position (P.eventIn s ∷ events k) p → TickStatus (events k) v
       → ReportDue k p v
-      → Log (s ∷ l) (told (P.eventIn s) true ∷ k) (entry (suc (length l)) p v ∷ es)
+      → Log (s ∷ l) (told (P.eventIn s) true ∷ k) (record { number = suc (length l); position = p; status = v } ∷ es)

@@ -1,6 +1,6 @@
 -- The page to read: document 01, 'Who commands', "Read off the list of events ..", each sentence a theorem for every list. On one side the
--- product's definition, on the other the sentence as `Paper` says it a second time. What ends in `↔` fixes the reading: whatever fits the
--- sentence is what is read, and what is read fits it.
+-- product's definition, on the other the sentence as `Paper` says it a second time. A `↔` fixes the definition: what it gives fits the
+-- sentence, and nothing else does. Where there is an equation instead, `reading` and `has-log` say that something fits.
 use mathlib.Core.Path.{_≡_, subst}
 use mathlib.Core.Logic.{_↔_}
 use mathlib.Core.Bool.{Bool}
@@ -61,10 +61,10 @@ module _ (h now : List Event) (a : L.AfterRestart h now) (v : ℕ) where
     tool-value = Values.tool-value-read h now a v (Judging.each-now a (Judging.tools (accepted .1)))
 
 -- these together
-pub commanded : (h : List Event) → L.Accepted h → (c : Commands) → (R.commandsIn h ≡ c) ↔ L.Commanded h c
-commanded h a c =
+pub commands : (h : List Event) → L.Accepted h → (c : Commands) → (R.commandsIn h ≡ c) ↔ L.CommandsRead h c
+commands h a c =
     let t = accepted-fit h a .tools in
-    (λ e. subst (L.Commanded h) e (Values.has-commands h t), λ w. Values.commands-are h c w t)
+    (λ e. subst (L.CommandsRead h) e (Values.has-commands h t), λ w. Values.commands-are h c w t)
 
 -- ── Parameters ──
 
@@ -77,6 +77,8 @@ pub parameters : (h : List Event) (q : List ℕ) → (R.parameters h ≡ q) ↔ 
 parameters h q = (λ e. subst (L.Parameters h) e (Values.has-parameters h), λ w. Values.parameters-are h w)
 
 -- ── Ticks, bus and run ──
+
+-- "1 tick: one second passes."
 pub ticks : (l : List Event) → R.ticks l ≡ length (L.ticks l)
 ticks l = Runs.same-ticks l
 
@@ -106,7 +108,7 @@ run h r = rw (Runs.run-stands h) (Runs.run-read 0 h r)
 pub run-with-tick : (t : Event) (h : List Event) → t .kind ≡ 1 → (r : ℕ) → (R.runIn (t ∷ h) ≡ r) ↔ L.Run 1 h r
 run-with-tick t h k r = rw (Runs.run-at-tick t h k) (Runs.run-read 1 h r)
 
--- ── Who is judged, and what is accepted ──
+-- ── What is refused, and what is accepted ──
 
 -- "Refusals 2 to 13 are judged by what is read here"
 pub judgement : (h : List Event) (s : List ℕ) (n : ℕ) → (R.judgement h s ≡ n) ↔ L.Judged h s n
@@ -124,7 +126,7 @@ history-on k old w l h = Judging.history-on k old w l h
 pub accepted : (t : C.Trace) (h : List Event) → (C.accepted t ≡ h) ↔ L.History (map (λ (m : C.Moment). m .bytes) t) h
 accepted t h = rw (Judging.accepted-given t) (Judging.history-read (map (λ (m : C.Moment). m .bytes) t) h)
 
--- ── Who commands, where to, and what is shown ──
+-- ── Who commands, the target, the position and the status ──
 
 -- every history that records leave gives all that is read below, whatever is counted
 pub reading : (passed followed : ℕ) (h : List Event) → L.Accepted h
@@ -161,7 +163,7 @@ ruling-source h a w s = Moves.ruling-read h (accepted-fit h a) w s
 
 -- ── The reports ──
 
--- ours, from step 4: the list decides them. Every list of records has such a log, and it is the one read off.
+-- step 4, of what is read here: every list of records has such a log, and it is the one read off
 pub has-log : (l : List (List ℕ)) → (k : List L.Told) × (es : List Entry) × L.Log (reverse l) k es
 has-log l = Logs.has-log accepted-fits (reverse l)
 

@@ -138,7 +138,7 @@ parameters-are h w = same-row h ∙ row-is h w
 
 -- the commands together
 module _ (h : List Event) (c : Commands) where
-  pub commands-are : L.Commanded h c → L.Each (λ e. R.isTool e ≡ true → L.Tool e) (R.current h) → R.commandsIn h ≡ c
+  pub commands-are : L.CommandsRead h c → L.Each (λ e. R.isTool e ≡ true → L.Tool e) (R.current h) → R.commandsIn h ≡ c
   commands-are w most =
       let now = w .now in
       let a = w .after-restart in
@@ -153,7 +153,7 @@ module _ (h : List Event) (c : Commands) where
       (setpoint-read h now a (c .stored) .1 (w .stored) i)
       (setpoint-value-read h now a (c .setpoint) .1 (w .setpoint) i)
 
-pub has-commands : (h : List Event) → L.Each (λ e. R.isTool e ≡ true → L.Tool e) (R.current h) → L.Commanded h (R.commandsIn h)
+pub has-commands : (h : List Event) → L.Each (λ e. R.isTool e ≡ true → L.Tool e) (R.current h) → L.CommandsRead h (R.commandsIn h)
 has-commands h most =
     let now = R.current h in
     let a = now-read h (R.current h) .0 refl in
