@@ -137,8 +137,8 @@ module _ (d : Drive) where
   bit-column b = (
     λ x. let e = record-status d b .1 x in omega arith,
     λ n.
-    let x : statusOf d / 2 ^ b % 2 ≡ 1 → ⊥ = λ e. n (record-status d b .0 e) in
-    even (statusOf d / 2 ^ b) x,
+        let x : statusOf d / 2 ^ b % 2 ≡ 1 → ⊥ = λ e. n (record-status d b .0 e) in
+        even (statusOf d / 2 ^ b) x,
   )
     where
       even : (m : ℕ) → (m % 2 ≡ 1 → ⊥) → 48 + m % 2 ≡ 48

@@ -23,7 +23,7 @@ drive row i = getD row i freshDrive
 pub record Listed (i : ℕ) (list : List ℕ) : Type 0 where
   pub place : ℕ
   pub within : place < length list
-  pub is : getD list place 0 ≡ i
+  pub stands : getD list place 0 ≡ i
 
 -- "a list names a drive twice": a number stands at two places of it
 pub record NamedTwice (list : List ℕ) : Type 0 where
@@ -31,7 +31,7 @@ pub record NamedTwice (list : List ℕ) : Type 0 where
   pub before : List ℕ
   pub amid : List ℕ
   pub after : List ℕ
-  pub is : list ≡ before ++ number ∷ amid ++ number ∷ after
+  pub parts : list ≡ before ++ number ∷ amid ++ number ∷ after
 
 -- how often it stands there
 abbrev pub howOften : ℕ → List ℕ → ℕ

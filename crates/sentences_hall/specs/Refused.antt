@@ -13,6 +13,7 @@ use Rattle.numbers.specs.Laws.{cases}
 use Rattle.hall.specs.Hall.{Call, give, tick, badRow, badNumber, isTick, badEvent, namedIn, namesTwice, badQuota, callRefusal}
 use Rattle.shift.specs.Shift.{pageRefusal}
 use Rattle.sentences.specs.Words.{_is_, _exceeds_, between, someOf, choose, firstThatFits}
+use Rattle.sentences.specs.Paper as P1
 use Rattle.sentences.specs.Refusals.{same-choice, same-kind}
 use Rattle.sentences.specs.Rules.{at-most}
 use Rattle.sentences_hall.specs.Paper as P
@@ -45,10 +46,10 @@ split-twice (i ∷ list) e =
     cases (namedIn i list)
     (λ q.
     let r = named-split i list q in
-    record { number = i; before = []; amid = r .0; after = r .1; is = ap (λ (l : List ℕ). i ∷ l) (r .2) })
+    record { number = i; before = []; amid = r .0; after = r .1; parts = ap (λ (l : List ℕ). i ∷ l) (r .2) })
     (λ q.
     let t = split-twice list (rw q at e) in
-    record { number = t .number; before = i ∷ t .before; amid = t .amid; after = t .after; is = ap (λ (l : List ℕ). i ∷ l) (t .is) })
+    record { number = t .number; before = i ∷ t .before; amid = t .amid; after = t .after; parts = ap (λ (l : List ℕ). i ∷ l) (t .parts) })
 
 twice-amid : (x : ℕ) (xs ys zs : List ℕ) → namesTwice (xs ++ x ∷ ys ++ x ∷ zs) ≡ true
 unfolding namesTwice
@@ -57,7 +58,7 @@ twice-amid x (y ∷ xs) ys zs = rw (twice-amid x xs ys zs) (or-true (namedIn y (
 
 pub twice-named : (list : List ℕ) → (namesTwice list ≡ true) ↔ P.NamedTwice list
 twice-named list =
-    (split-twice list, λ t. subst (λ (l : List ℕ). namesTwice l ≡ true) (sym (t .is)) (twice-amid (t .number) (t .before) (t .amid) (t .after)))
+    (split-twice list, λ t. subst (λ (l : List ℕ). namesTwice l ≡ true) (sym (t .parts)) (twice-amid (t .number) (t .before) (t .amid) (t .after)))
 
 -- the same by how often a number stands there
 
@@ -77,7 +78,7 @@ often-split x (y ∷ list) h =
     (λ q.
     let k : 1 ≤ 0 + P.howOften x list = rw q at h in
     let r = often-split x list (omega arith) in
-    (y ∷ r .0, r .1, ap (λ (l : List ℕ). y ∷ l) (r .2), rw q (omega (arith, r .3))))
+    (y ∷ r .0, r .1, ap (λ (l : List ℕ). y ∷ l) (r .2), ap (λ (b : Bool). choose b 1 0 + P.howOften x list) q ∙ omega (arith, r .3)))
 
 some-found : (list : List ℕ) (f : ℕ → Bool) → someOf list f ≡ true → (x : ℕ) × (f x ≡ true)
 some-found [] f e = absurd (false≢true e)
@@ -97,6 +98,10 @@ often-amid x xs ys zs =
     (lt-ltb 1 (P.howOften x list)
     (omega (arith, often-append x (xs ++ x ∷ ys) (x ∷ zs), often-append x xs (x ∷ ys), often-first x ys, often-first x zs)))
 
+twice-by : (x : ℕ) (list xs rest ys zs : List ℕ) → list ≡ xs ++ x ∷ rest → rest ≡ ys ++ x ∷ zs → P.NamedTwice list
+twice-by x list xs rest ys zs e f =
+    record { number = x; before = xs; amid = ys; after = zs; parts = e ∙ rw f (sym (append-assoc xs (x ∷ ys) (x ∷ zs))) }
+
 pub often-twice : (list : List ℕ) → often list ≡ true → P.NamedTwice list
 often-twice list e =
     let f = some-found list (λ x. P.howOften x list exceeds 1) e in
@@ -104,20 +109,14 @@ often-twice list e =
     let h : 1 < P.howOften x list = ltb-true 1 (P.howOften x list) (f .1) in
     let r = often-split x list (omega arith) in
     let t = often-split x (r .1) (omega (arith, h, r .3)) in
-    record {
-      number = x;
-      before = r .0;
-      amid = t .0;
-      after = t .1;
-      is = r .2 ∙ ap (λ (l : List ℕ). r .0 ++ x ∷ l) (t .2) ∙ sym (append-assoc (r .0) (x ∷ t .0) (x ∷ t .1));
-    }
+    twice-by x list (r .0) (r .1) (t .0) (t .1) (r .2) (t .2)
 
 pub same-twice : (list : List ℕ) → namesTwice list ≡ often list
 same-twice list =
     same-if (namesTwice list) (often list)
     (λ e.
     let t = split-twice list e in
-    subst (λ (l : List ℕ). often l ≡ true) (sym (t .is)) (often-amid (t .number) (t .before) (t .amid) (t .after)))
+    subst (λ (l : List ℕ). often l ≡ true) (sym (t .parts)) (often-amid (t .number) (t .before) (t .amid) (t .after)))
     (λ e. twice-named list .1 (often-twice list e))
 
 -- ── The conditions, one by one ──
@@ -134,12 +133,15 @@ unfolding badNumber
 same-number n [] = refl
 same-number n (i ∷ list) = rw (at-most n i, same-number n list)
 
+abbrev reader : List ℕ → ℕ
+reader s = firstThatFits (P1.ofTheBytes s ++ P1.ofTheData (getD s 2 0) (getD s 3 0) (getD s 4 0) (getD s 5 0))
+
 kind-one : (b : Bool) (k : ℕ) → eqb (choose b k 0) 1 ≡ (b && eqb k 1)
 kind-one true k = refl
 kind-one false k = refl
 
 same-tick : (s : List ℕ) → isTick s ≡ P.acceptedTick s
-same-tick s = ap (λ (k : ℕ). eqb k 1) (same-kind s) ∙ kind-one _ (getD s 2 0)
+same-tick s = ap (λ (k : ℕ). eqb k 1) (same-kind s) ∙ kind-one (reader s is 0) (getD s 2 0)
 
 same-event : (list s : List ℕ) (room : ℕ) → badEvent list s room ≡ (P.acceptedTick s || (length list exceeds 64 || length list exceeds room))
 same-event list s room =

@@ -134,7 +134,7 @@ none-or-one row (suc n) none one =
     let b = r .there in
     cases (ltb (P.drive row j .wait) (P.drive row n .wait))
     (λ l.
-    let longer = ltb-true _ _ l in
+    let longer : P.drive row j .wait < P.drive row n .wait = ltb-true _ _ l in
     one n record {
       there = omega arith;
       due = same-due-now _ .0 q;
@@ -228,7 +228,7 @@ count-one (suc n) p f =
     cases (p n)
     (λ e.
     let z : countBelow n p ≡ 0 =
-        none-counted p n (λ i l. cases (p i) (λ q. let s = f i n (omega arith) (omega arith) q e in absurd (omega arith)) (λ q. q)) in
+    none-counted p n (λ i l. cases (p i) (λ q. let s = f i n (omega arith) (omega arith) q e in absurd (omega arith)) (λ q. q)) in
     rw e (omega arith))
     (λ e. rw e (count-one n p (λ i j k l. f i j (omega arith) (omega arith))))
 

@@ -216,8 +216,8 @@ bytes-of-tick sent = refl
 -- ── W-203: the shift page ──
 
 -- "17 when the lent page is shorter than 29 bytes per drive, checked after 14"
-pub page-answers-with : (drives bytes : ℕ) → pageRefusal drives bytes ≡ firstThatFits (P.ofThePage drives bytes)
-page-answers-with drives bytes = Refused.same-page drives bytes
+pub page-answers-with : (drives room : ℕ) → pageRefusal drives room ≡ firstThatFits (P.ofThePage drives room)
+page-answers-with drives room = Refused.same-page drives room
 
 -- "exactly 28 columns and a line feed"
 pub line-bytes : (number : ℕ) (d : Drive) → length (driveLine number d) ≡ 29

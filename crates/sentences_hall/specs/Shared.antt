@@ -7,9 +7,10 @@ use native.Mathlib.Omega.{arith}
 use lib.Dec.{eqb}
 use lib.ListN.{length}
 use borrow.Author.Tests.{ne-eqb}
+use Rattle.numbers.specs.Numbers.{pick}
 use Rattle.numbers.specs.Laws.{cases}
 use Rattle.damper.specs.declared.Drive.{Drive}
-use Rattle.hall.specs.Hall.{Call, give, tick, callRefusal, Given, bytes, hallTick, Turn, turn, turnsAsked, turnsOf, rowAfter, turnsIn, hallAfter, sharedOut, share}
+use Rattle.hall.specs.Hall.{Call, give, tick, namedIn, Given, bytes, hallTick, Turn, turn, turnsAsked, turnsOf, rowAfter, turnsIn, hallAfter, sharedOut, share}
 use Rattle.hall.specs.Quota.{hallStep}
 use Rattle.hall.specs.OnceLaws.{once-shared}
 use Rattle.hall.specs.TickLaws.{tick-shared}
@@ -50,21 +51,18 @@ module _ (n i : ℕ) (cs : List Call) where
   asked c e = rw (same-call n c ∙ e)
 
   module _ (list s : List ℕ) (room : ℕ) (ok : P.answerTo n (give list s room) ≡ 0) where
-    pub named-share : P.Listed i list → share n i (give list s room ∷ cs) ≡ bytes s ∷ share n i cs
-    named-share l =
+    one-event : share n i (give list s room ∷ cs) ≡ pick (namedIn i list) (bytes s ∷ []) [] ++ share n i cs
+    one-event =
         one-more (give list s room)
         ∙ ap (λ (g : List Given). g ++ share n i cs)
         (ap (sharedOut i) (asked (give list s room) ok)
-        ∙ once-shared (λ x. bytes s) i list (given-once n list s room (same-call n (give list s room) ∙ ok))
-        ∙ rw (is-named i list l))
+        ∙ once-shared (λ x. bytes s) i list (given-once n list s room (same-call n (give list s room) ∙ ok)))
+
+    pub named-share : P.Listed i list → share n i (give list s room ∷ cs) ≡ bytes s ∷ share n i cs
+    named-share l = one-event ∙ rw (is-named i list l)
 
     pub unnamed-share : (P.Listed i list → ⊥) → share n i (give list s room ∷ cs) ≡ share n i cs
-    unnamed-share l =
-        one-more (give list s room)
-        ∙ ap (λ (g : List Given). g ++ share n i cs)
-        (ap (sharedOut i) (asked (give list s room) ok)
-        ∙ once-shared (λ x. bytes s) i list (given-once n list s room (same-call n (give list s room) ∙ ok))
-        ∙ rw (is-unnamed i list l))
+    unnamed-share l = one-event ∙ rw (is-unnamed i list l)
 
   pub tick-share : (quota : ℕ) (sends : ℕ → Bool) (room : ℕ) → P.answerTo n (tick quota sends room) ≡ 0 → i < n
       → share n i (tick quota sends room ∷ cs) ≡ hallTick (sends i) ∷ share n i cs

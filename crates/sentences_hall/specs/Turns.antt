@@ -73,12 +73,12 @@ map-at f (i ∷ list) zero h = refl
 map-at f (i ∷ list) (suc k) h = map-at f list k (le-of-suc-le-suc h)
 
 pub is-named : (i : ℕ) (list : List ℕ) → P.Listed i list → namedIn i list ≡ true
-is-named i list l = rw (← (l .is)) (named-at list (l .place) (l .within))
+is-named i list l = rw (← (l .stands)) (named-at list (l .place) (l .within))
 
 pub is-unnamed : (i : ℕ) (list : List ℕ) → (P.Listed i list → ⊥) → namedIn i list ≡ false
 is-unnamed i list n =
     cases (namedIn i list)
-    (λ q. let p = named-place i list q in absurd (n record { place = p .0; within = p .1; is = p .2 }))
+    (λ q. let p = named-place i list q in absurd (n record { place = p .0; within = p .1; stands = p .2 }))
     (λ q. q)
 
 module _ (row : List Drive) (list s answers : List ℕ) where
@@ -262,7 +262,7 @@ module _ (row : List Drive) (quota : ℕ) (sends : ℕ → Bool) (numbers : List
       undue-ticked f u s =
           let w = same-formed d .1 f in
           let e : due left ≡ false =
-              cases (due left) (λ q. absurd (u record { formed = f; reports = same-due left (statusOf left) .0 q })) (λ q. q) in
+          cases (due left) (λ q. absurd (u record { formed = f; reports = same-due left (statusOf left) .0 q })) (λ q. q) in
           (drive-at i h ∙ rw s (undue-drive d w e), number-at i h ∙ formed-number (sends i) d w ∙ rw s)
 
       -- a number is that of a report just where the drive is sent
@@ -275,8 +275,12 @@ module _ (row : List Drive) (quota : ℕ) (sends : ℕ → Bool) (numbers : List
           (λ s.
           rw s
           (cases (wellFormed d)
-          (λ w. rw (number-at i h ∙ formed-number (sends i) d w ∙ rw s))
-          (λ w. rw (number-at i h ∙ unformed-number (sends i) d w .0))))
+          (λ w.
+          let n : getD filled i 0 ≡ 0 = number-at i h ∙ formed-number (sends i) d w ∙ rw s in
+          rw n)
+          (λ w.
+          let n : getD filled i 0 ≡ 1 = number-at i h ∙ unformed-number (sends i) d w .0 in
+          rw n)))
 
 -- ── Who is sent decides all else ──
 
@@ -324,7 +328,7 @@ pub every-set : (row : List Drive) (quota : ℕ) (sends : ℕ → Bool) (numbers
 every-set row quota sends numbers ok m =
     let filled = answersAfter hallStep row (tick quota sends (length numbers)) numbers in
     let same : (i : ℕ) → i < length row → sends i ≡ sentBy filled i =
-        λ i h. sym (told-sent row quota sends numbers ok i h (m .due i h)) in
+    λ i h. sym (told-sent row quota sends numbers ok i h (m .due i h)) in
     record {
       refusal = sym (sym (same-answer row quota numbers sends (sentBy filled) same) ∙ same-call (length row) (tick quota sends (length numbers)) ∙ ok);
       choice = same-allowed-call quota row (sentBy filled) (length numbers) .1 (λ z. may-by quota row sends (sentBy filled) same m);
