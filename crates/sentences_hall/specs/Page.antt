@@ -6,12 +6,11 @@ use Prim.Native.Nat.{ℕ, zero, suc, _+_, _-_, _*_, _/_, _%_, _^_, _≤_, _<_}
 use native.Mathlib.Omega.{arith}
 use lib.Dec.{ltb}
 use lib.ListN.{length, getD, take, drop}
-use borrow.Author.Tests.{lt-ltb, le-ltb, ltb-true, ltb-false, eqb-false, not-true}
+use borrow.Author.Tests.{lt-ltb, ltb-true, ltb-false}
 use Rattle.numbers.specs.Laws.{cases, passed}
 use Rattle.motion.specs.Motion.{toPercent}
-use Rattle.rules.specs.Rank.{sourceAt, rulingRank, activeByte}
+use Rattle.rules.specs.Rank.{sourceAt}
 use Rattle.damper.specs.declared.Drive.{Drive}
-use Rattle.damper.specs.WellFormed.{wellFormed}
 use Rattle.damper.specs.Tick.{busOn, ruling, rulingSource, statusOf}
 use Rattle.line.specs.Line.{decimal, spaced}
 use Rattle.line.specs.Laws.{decimal-small, decimal-more}
@@ -19,7 +18,7 @@ use Rattle.hall.specs.Hall.{badRow}
 use Rattle.hall.specs.Laws.{row-few}
 use Rattle.shift.specs.Shift as S
 use Rattle.shift.specs.Laws as L
-use Rattle.sentences.specs.Words.{_is_, _isNot_, _exceeds_, choose, firstThatFits}
+use Rattle.sentences.specs.Words.{_is_, _isNot_, firstThatFits}
 use Rattle.sentences.specs.Paper as P1
 use Rattle.sentences.specs.Rules.{same-ruling, same-bus}
 use Rattle.sentences.specs.Ticks.{record-status}
@@ -104,7 +103,8 @@ commander-columns d =
     let c = d .commands in
     ap (λ (r : ℕ). S.left 8 (S.nameOf (sourceAt r))) (same-commander d)
     ∙ name-columns (P.commander d)
-    (at-most-6 (c .fault is 1) (c .forcing is 2 || c .forcing is 3) (d .run .kind isNot 0) (c .hand is 1) (c .tool is 1) (P1.busActive c (d .age) (d .params)))
+    (at-most-6 (c .fault is 1) (c .forcing is 2 || c .forcing is 3) (d .run .kind isNot 0) (c .hand is 1) (c .tool is 1)
+    (P1.busActive c (d .age) (d .params)))
 
 -- ── The line ──
 

@@ -5,7 +5,7 @@ use mathlib.Core.Bool.{Bool, true, false, not, _&&_, _||_, or-assoc, or-true, fa
 use mathlib.Core.List.{List, [], _∷_, _++_, append-assoc}
 use Prim.Native.Nat.{ℕ, zero, suc, _+_, _*_, _≤_, _<_}
 use native.Mathlib.Omega.{arith}
-use lib.Dec.{leb, ltb, eqb}
+use lib.Dec.{ltb, eqb}
 use lib.ListN.{length, getD}
 use borrow.Author.Tests.{eqb-true, eq-eqb, ne-eqb, ltb-true, lt-ltb, le-ltb}
 use Rattle.numbers.specs.Numbers.{pick}
@@ -57,8 +57,10 @@ twice-amid x [] ys zs = ap (λ (b : Bool). b || namesTwice (ys ++ x ∷ zs)) (na
 twice-amid x (y ∷ xs) ys zs = rw (twice-amid x xs ys zs) (or-true (namedIn y (xs ++ x ∷ ys ++ x ∷ zs)))
 
 pub twice-named : (list : List ℕ) → (namesTwice list ≡ true) ↔ P.NamedTwice list
-twice-named list =
-    (split-twice list, λ t. subst (λ (l : List ℕ). namesTwice l ≡ true) (sym (t .parts)) (twice-amid (t .number) (t .before) (t .amid) (t .after)))
+twice-named list = (
+  split-twice list,
+  λ t. subst (λ (l : List ℕ). namesTwice l ≡ true) (sym (t .parts)) (twice-amid (t .number) (t .before) (t .amid) (t .after)),
+)
 
 -- the same by how often a number stands there
 
@@ -143,7 +145,8 @@ kind-one false k = refl
 same-tick : (s : List ℕ) → isTick s ≡ P.acceptedTick s
 same-tick s = ap (λ (k : ℕ). eqb k 1) (same-kind s) ∙ kind-one (reader s is 0) (getD s 2 0)
 
-same-event : (list s : List ℕ) (room : ℕ) → badEvent list s room ≡ (P.acceptedTick s || (length list exceeds 64 || length list exceeds room))
+same-event : (list s : List ℕ) (room : ℕ)
+    → badEvent list s room ≡ (P.acceptedTick s || (length list exceeds 64 || length list exceeds room))
 same-event list s room =
     or-assoc (isTick s) (ltb 64 (length list)) (ltb room (length list))
     ∙ ap (λ (b : Bool). b || (ltb 64 (length list) || ltb room (length list))) (same-tick s)
@@ -154,7 +157,7 @@ outside false true = refl
 outside false false = refl
 
 same-quota : (q : ℕ) → badQuota q ≡ not (between 1 64 q)
-same-quota q = sym (ap (λ (b : Bool). not (b && leb q 64)) (at-most 1 q) ∙ ap (λ (b : Bool). not (not (ltb q 1) && b)) (at-most q 64) ∙ outside (ltb q 1) (ltb 64 q))
+same-quota q = rw (at-most 1 q, at-most q 64) (sym (outside (ltb q 1) (ltb 64 q)))
 
 -- ── In order ──
 

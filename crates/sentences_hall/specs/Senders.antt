@@ -1,15 +1,14 @@
 -- Proofs: which drives are due, and whom a hall tick may send.
 use mathlib.Core.Path.{_≡_, refl, sym, ap, _∙_}
 use mathlib.Core.Logic.{_↔_}
-use mathlib.Core.Bool.{Bool, true, false, _&&_, _||_, and-false, false≢true}
+use mathlib.Core.Bool.{Bool, true, false, _&&_, _||_, false≢true}
 use mathlib.Core.List.{List, [], _∷_}
 use Prim.Native.Nat.{ℕ, zero, suc, _+_, _≤_, _<_}
 use native.Mathlib.Omega.{arith}
 use native.Mathlib.Nat.{not-suc-le-zero}
 use lib.Dec.{ltb, leb, eqb}
 use lib.ListN.{length}
-use borrow.Author.Tests.{eqb-true, eqb-false, eq-eqb, ne-eqb, ltb-true, ltb-false, le-ltb, leb-true, le-leb}
-use Rattle.numbers.specs.Numbers.{pick}
+use borrow.Author.Tests.{eqb-true, eqb-false, eq-eqb, ltb-true, ltb-false, le-ltb, leb-true, le-leb}
 use Rattle.numbers.specs.Laws.{cases, and-left, and-right, and-intro, or-left, or-right}
 use Rattle.numbers.specs.Places.{allBelow, countBelow, implies}
 use Rattle.numbers.specs.PlaceLaws.{implied, implies-by, all-at, all-by, count-none, none-counted}
@@ -20,11 +19,11 @@ use Rattle.damper.specs.WellFormed.{wellFormed}
 use Rattle.damper.specs.Tick.{advance, statusOf, due}
 use Rattle.damper.specs.Step.{refusalOf, stepOf}
 use Rattle.invariant.specs.Effects.{step-refused, step-accepted, report-after}
-use Rattle.hall.specs.Hall.{tick, callRefusal}
-use Rattle.hall.specs.Quota.{dueNow, goesBefore, longest, allowed, allowedCall}
-use Rattle.sentences.specs.Words.{choose, firstThatFits}
+use Rattle.hall.specs.Hall.{Call, tick, callRefusal, turnsOf, rowAfter}
+use Rattle.hall.specs.Quota.{dueNow, hallStep, goesBefore, longest, allowed, allowedCall, allowedCalls}
+use Rattle.sentences.specs.Words.{choose}
 use Rattle.sentences.specs.Paper as P1
-use Rattle.sentences.specs.Refusals.{same-choice, same-refusals}
+use Rattle.sentences.specs.Refusals.{same-refusals}
 use Rattle.sentences.specs.Rules.{same-due}
 use Rattle.sentences.specs.Forms.{same-formed}
 use Rattle.sentences.specs.Prints.{same-report}
@@ -219,6 +218,17 @@ module _ (quota : ℕ) (row : List Drive) (sends : ℕ → Bool) where
         λ f. implies-by (eqb (callRefusal (length row) c) 0) _ (λ q. may-be-sent (f (sym same ∙ eqb-true _ 0 q))),
       )
 
+-- and of calls, each on the row that the one before left
+pub no-call : (row : List Drive) → allowedCalls row [] ≡ true
+unfolding allowedCalls
+no-call row = refl
+
+pub one-more-call : (row : List Drive) (c : Call) (cs : List Call)
+    → (allowedCalls row (c ∷ cs) ≡ true)
+    ↔ ((allowedCall row c ≡ true) × (allowedCalls (rowAfter hallStep row (turnsOf (length row) c)) cs ≡ true))
+unfolding allowedCalls
+one-more-call row c cs = (λ e. (and-left (allowedCall row c) _ e, and-right (allowedCall row c) _ e), λ p. and-intro (p .0) (p .1))
+
 -- ── Some set may be sent ──
 
 count-one : (n : ℕ) (p : ℕ → Bool) → ((i j : ℕ) → i < n → j < n → p i ≡ true → p j ≡ true → i ≡ j) → countBelow n p ≤ 1
@@ -235,7 +245,9 @@ count-one (suc n) p f =
 -- the one that waited longest alone
 some-may : (quota : ℕ) (row : List Drive) → 1 ≤ quota → P.MaySend quota row (longest row)
 some-may quota row h =
-    let most = count-one (length row) (longest row) (λ i j k l p q. one-longest row (length row) i j (longest-is row i k p) (longest-is row j l q)) in
+    let one : (i j : ℕ) → i < length row → j < length row → longest row i ≡ true → longest row j ≡ true → i ≡ j =
+    λ i j k l p q. one-longest row (length row) i j (longest-is row i k p) (longest-is row j l q) in
+    let most = count-one (length row) (longest row) one in
     record {
       due = λ i l e. longest-is row i l e .due;
       few = rw (← (same-count (length row) (longest row))) (omega arith);
@@ -250,7 +262,8 @@ many-same : (n : ℕ) (f g : ℕ → Bool) → ((i : ℕ) → i < n → f i ≡ 
 many-same zero f g h = refl
 many-same (suc n) f g h = rw (h 0 (omega arith), many-same n (λ i. f (suc i)) (λ i. g (suc i)) (λ i l. h (suc i) (omega arith)))
 
-pub may-by : (quota : ℕ) (row : List Drive) (f g : ℕ → Bool) → ((i : ℕ) → i < length row → f i ≡ g i) → P.MaySend quota row f → P.MaySend quota row g
+pub may-by : (quota : ℕ) (row : List Drive) (f g : ℕ → Bool) → ((i : ℕ) → i < length row → f i ≡ g i)
+    → P.MaySend quota row f → P.MaySend quota row g
 may-by quota row f g h m =
     record {
       due = λ i l e. m .due i l (h i l ∙ e);

@@ -1,19 +1,18 @@
 -- The page to read first. Each sentence of document 02's W-201, W-203, W-204 and W-205, as they stand together, that a definition of the
--- product states is here a theorem for every input: on one side the definition that the contracts name, on the other the sentence as `Paper`
--- says it a second time. `P1` is document 01 in its second form; a drive's own step, its advance and its status have their page there.
+-- product states is here a theorem for every input: on one side the definition that the contracts name, on the other the sentence as
+-- `Paper` says it a second time. `P1` is document 01 in its second form: a drive's step, its advance and its status have their page there.
 use mathlib.Core.Path.{_≡_, refl, sym, _∙_}
 use mathlib.Core.Logic.{_↔_}
 use mathlib.Core.Bool.{Bool, true, false, _&&_}
 use mathlib.Core.List.{List, [], _∷_}
 use Prim.Native.Nat.{ℕ, suc, _+_, _-_, _*_, _≤_, _<_}
-use native.Mathlib.Omega.{arith}
 use lib.ListN.{length, getD, take, drop}
 use Rattle.damper.specs.declared.Drive.{Drive}
 use Rattle.damper.specs.Record.{freshDrive}
 use Rattle.damper.specs.Tick.{advance, statusOf}
 use Rattle.damper.specs.Step.{refusalOf, stepOf}
 use Rattle.choice.specs.Sent.{sentBy}
-use Rattle.hall.specs.Hall.{Call, give, tick, callRefusal, Given, bytes, hallTick, bytesIn, turnsOf, rowAfter, answersAfter, hallAfter, share}
+use Rattle.hall.specs.Hall.{Call, give, tick, callRefusal, bytes, hallTick, bytesIn, turnsOf, rowAfter, answersAfter, hallAfter, share}
 use Rattle.hall.specs.Quota.{dueNow, hallStep, allowed, allowedCall, allowedCalls}
 use Rattle.shift.specs.Shift.{driveLine, pageRefusal, pageAfter}
 use Rattle.shift.specs.Laws.{line-length, page-length}
@@ -22,6 +21,7 @@ use Rattle.sentences.specs.Fields as F
 use Rattle.sentences.specs.Fields.{_≔_, _with_}
 use Rattle.sentences.specs.Paper as P1
 use Rattle.sentences_hall.specs.Paper as P
+use Rattle.sentences_hall.specs.Contract.{Result}
 use Rattle.sentences_hall.specs.Refused as Refused
 use Rattle.sentences_hall.specs.Senders as Senders
 use Rattle.sentences_hall.specs.Turns as Turns
@@ -30,8 +30,8 @@ use Rattle.sentences_hall.specs.Page as Page
 
 -- ── When a call is refused itself ──
 
--- "14 when the row holds no drive or over 64. 15 when .. 16 when .."; W-204: "18 when .., after 16"; W-205: "19 when .., checked after 16": the
--- first that fits, and "a call that isn't refused itself answers 0"
+-- "14 when the row holds no drive or over 64. 15 when .. 16 when .."; W-204: "18 when .., after 16"; W-205: "19 when .., checked after
+-- 16": the first that fits, and "a call that isn't refused itself answers 0"
 pub answers-with : (n : ℕ) (c : Call) → callRefusal n c ≡ firstThatFits (P.ofTheCall n c)
 answers-with n c = Refused.same-call n c
 
@@ -83,7 +83,8 @@ pub wait-of-fresh : freshDrive .wait ≡ 0
 wait-of-fresh = refl
 
 -- ── "One call ticks them all and fills one number per drive in such a row", the drives given that it sends ──
-module _ (row : List Drive) (quota : ℕ) (sends : ℕ → Bool) (numbers : List ℕ) (ok : P.answerTo (length row) (tick quota sends (length numbers)) ≡ 0) where
+module _ (row : List Drive) (quota : ℕ) (sends : ℕ → Bool) (numbers : List ℕ)
+    (ok : P.answerTo (length row) (tick quota sends (length numbers)) ≡ 0) where
   abbrev ticked : List Drive
   ticked = rowAfter hallStep row (turnsOf (length row) (tick quota sends (length numbers)))
 
@@ -111,7 +112,8 @@ module _ (row : List Drive) (quota : ℕ) (sends : ℕ → Bool) (numbers : List
 
     -- "65,536 + 256 × position + status for a report"; "sent .. it is 0"
     pub sent : P1.WellFormed d → sends i ≡ true
-        → (P.drive ticked i ≡ n with (F.since ≔ 0 ∷ F.reported ≔ 1 ∷ F.lastPosition ≔ n .position ∷ F.lastStatus ≔ statusOf n ∷ F.wait ≔ 0 ∷ []))
+        → (P.drive ticked i
+        ≡ n with (F.since ≔ 0 ∷ F.reported ≔ 1 ∷ F.lastPosition ≔ n .position ∷ F.lastStatus ≔ statusOf n ∷ F.wait ≔ 0 ∷ []))
         × (getD filled i 0 ≡ 65536 + 256 * n .position + statusOf n)
     sent f s = Turns.sent-ticked row quota sends numbers ok i h f s
 
@@ -150,6 +152,15 @@ tick-may-send row quota sends room = Senders.same-allowed-call quota row sends r
 pub event-sends-none : (row : List Drive) (list s : List ℕ) (room : ℕ) → allowedCall row (give list s room) ≡ true
 event-sends-none row list s room = refl
 
+-- and of a list of calls, each on the row that the one before left
+pub none-may-send : (row : List Drive) → allowedCalls row [] ≡ true
+none-may-send row = Senders.no-call row
+
+pub calls-may-send : (row : List Drive) (c : Call) (cs : List Call)
+    → (allowedCalls row (c ∷ cs) ≡ true)
+    ↔ ((allowedCall row c ≡ true) × (allowedCalls (rowAfter hallStep row (turnsOf (length row) c)) cs ≡ true))
+calls-may-send row c cs = Senders.one-more-call row c cs
+
 -- "If any is due", there is one that waited longest, and one only
 pub some-longest : (row : List Drive) (k : ℕ) → k < length row → P.Due (P.drive row k) → (i : ℕ) × P.Longest row (length row) i
 some-longest row k h f = Senders.some-longest row k h f
@@ -162,14 +173,15 @@ pub some-may : (quota : ℕ) (row : List Drive) → 1 ≤ quota → (sends : ℕ
 some-may quota row h = Senders.some-set quota row h
 
 -- every set that may be sent is that of a result which the contract admits, and the set decides the result
-pub every-set : (row : List Drive) (quota : ℕ) (sends : ℕ → Bool) (numbers : List ℕ) → P.answerTo (length row) (tick quota sends (length numbers)) ≡ 0
+pub every-set : (row : List Drive) (quota : ℕ) (sends : ℕ → Bool) (numbers : List ℕ)
+    → P.answerTo (length row) (tick quota sends (length numbers)) ≡ 0
     → P.MaySend quota row sends
     → (let c = tick quota sends (length numbers) in
-    Turns.Result row quota numbers 0 (rowAfter hallStep row (turnsOf (length row) c)) (answersAfter hallStep row c numbers))
+    Result row quota numbers 0 (rowAfter hallStep row (turnsOf (length row) c)) (answersAfter hallStep row c numbers))
 every-set row quota sends numbers ok m = Turns.every-set row quota sends numbers ok m
 
 pub set-decides : (row : List Drive) (quota : ℕ) (numbers : List ℕ) (a b : ℕ) (after other : List Drive) (filled more : List ℕ)
-    → Turns.Result row quota numbers a after filled → Turns.Result row quota numbers b other more
+    → Result row quota numbers a after filled → Result row quota numbers b other more
     → ((i : ℕ) → i < length row → sentBy filled i ≡ sentBy more i)
     → (a ≡ b) × (after ≡ other) × (filled ≡ more)
 set-decides row quota numbers a b after other filled more r t e = Turns.determined row quota numbers a b after other filled more r t e

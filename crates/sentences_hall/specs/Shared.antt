@@ -10,7 +10,8 @@ use borrow.Author.Tests.{ne-eqb}
 use Rattle.numbers.specs.Numbers.{pick}
 use Rattle.numbers.specs.Laws.{cases}
 use Rattle.damper.specs.declared.Drive.{Drive}
-use Rattle.hall.specs.Hall.{Call, give, tick, namedIn, Given, bytes, hallTick, Turn, turn, turnsAsked, turnsOf, rowAfter, turnsIn, hallAfter, sharedOut, share}
+use Rattle.hall.specs.Hall.{Call, give, tick, namedIn, Given, bytes, hallTick, Turn, turnsAsked, turnsOf, rowAfter}
+use Rattle.hall.specs.Hall.{turnsIn, hallAfter, sharedOut, share}
 use Rattle.hall.specs.Quota.{hallStep}
 use Rattle.hall.specs.OnceLaws.{once-shared}
 use Rattle.hall.specs.TickLaws.{tick-shared}

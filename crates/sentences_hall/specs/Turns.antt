@@ -1,16 +1,16 @@
 -- Proofs: what the calls leave in the row and in the row that is lent for their answers, place by place.
 use mathlib.Core.Path.{_≡_, refl, sym, ap, _∙_}
-use mathlib.Core.Bool.{Bool, true, false, _&&_, and-false, and-true, false≢true}
+use mathlib.Core.Bool.{Bool, true, false, _&&_, and-false}
 use mathlib.Core.List.{List, [], _∷_, _++_, map}
 use Prim.Native.Nat.{ℕ, zero, suc, _+_, _-_, _*_, _≤_, _<_}
 use native.Mathlib.Omega.{arith}
 use native.Mathlib.Nat.{not-suc-le-zero, le-of-suc-le-suc}
-use lib.Dec.{ltb, leb, eqb}
+use lib.Dec.{ltb, eqb}
 use lib.ListN.{length, getD, drop, length-map, List·getD-append, List·getD-eq-default}
-use lib.Seq.{ext-getD, getD-append-add, getD-drop}
+use lib.Seq.{getD-append-add, getD-drop}
 use borrow.Author.Tests.{eqb-true, eqb-false, eq-eqb, ne-eqb, ltb-true, ltb-false, lt-ltb, le-ltb, le-leb}
 use Rattle.numbers.specs.Numbers.{pick, next}
-use Rattle.numbers.specs.Laws.{cases, and-left}
+use Rattle.numbers.specs.Laws.{cases}
 use Rattle.numbers.specs.Places.{tabulate}
 use Rattle.numbers.specs.PlaceLaws.{tab-length, tab-at, tab-same}
 use Rattle.answer.specs.Answer.{numberOf}
@@ -25,8 +25,9 @@ use Rattle.damper.specs.Laws.{refusal-none}
 use Rattle.damper.specs.Carry.{answersIn}
 use Rattle.invariant.specs.Effects.{step-refused, step-accepted, number-after, wait-after}
 use Rattle.choice.specs.Sent.{sentBy}
-use Rattle.hall.specs.Hall.{Call, give, tick, namedIn, tickRefusal, callRefusal, hallTick, Turn, turn, carriedOut, tickNumber, turnsOf, turned, rowAfter, answersAfter}
-use Rattle.hall.specs.Quota.{hallTicked, hallStep, allowedCall}
+use Rattle.hall.specs.Hall.{Call, give, tick, namedIn, tickRefusal, callRefusal, hallTick, Turn, turn, carriedOut, turnsOf}
+use Rattle.hall.specs.Hall.{turned, rowAfter, tickNumber, answersAfter}
+use Rattle.hall.specs.Quota.{hallTicked, hallStep}
 use Rattle.hall.specs.Laws.{row-length, ticked-fits, give-turns, answers-end-length}
 use Rattle.hall.specs.ListLaws.{named-at, named-place}
 use Rattle.hall.specs.TickLaws.{tick-row, tick-numbers}
@@ -39,6 +40,7 @@ use Rattle.sentences.specs.Paper as P1
 use Rattle.sentences.specs.Rules.{same-due}
 use Rattle.sentences.specs.Forms.{same-formed, not-formed}
 use Rattle.sentences_hall.specs.Paper as P
+use Rattle.sentences_hall.specs.Contract.{Result}
 use Rattle.sentences_hall.specs.Refused.{same-call}
 use Rattle.sentences_hall.specs.Senders.{same-allowed-call, may-by}
 
@@ -205,7 +207,8 @@ module _ (row : List Drive) (quota : ℕ) (sends : ℕ → Bool) (numbers : List
 
     drive-at : (i : ℕ) → i < length row → P.drive ticked i ≡ hallTicked (sends i) (P.drive row i) .drive
     drive-at i h =
-        ap (λ (l : List Drive). getD l i freshDrive) (ap (rowAfter hallStep row) all-asked ∙ tick-row (λ j. hallTick (sends j)) hallStep row)
+        ap (λ (l : List Drive). getD l i freshDrive)
+        (ap (rowAfter hallStep row) all-asked ∙ tick-row (λ j. hallTick (sends j)) hallStep row)
         ∙ tab-at (length row) _ freshDrive i h
 
     abbrev said-at : ℕ → ℕ
@@ -284,13 +287,6 @@ module _ (row : List Drive) (quota : ℕ) (sends : ℕ → Bool) (numbers : List
 
 -- ── Who is sent decides all else ──
 
--- what the contract of the hall tick says of its result: the number that it answers with, the row and the numbers after it
-pub record Result (row : List Drive) (quota : ℕ) (numbers : List ℕ) (answer : ℕ) (after : List Drive) (filled : List ℕ) : Type 0 where
-  pub refusal : answer ≡ callRefusal (length row) (tick quota (sentBy filled) (length numbers))
-  pub choice : allowedCall row (tick quota (sentBy filled) (length numbers)) ≡ true
-  pub drives : after ≡ rowAfter hallStep row (turnsOf (length row) (tick quota (sentBy filled) (length numbers)))
-  pub told : filled ≡ answersAfter hallStep row (tick quota (sentBy filled) (length numbers)) numbers
-
 module _ (row : List Drive) (quota : ℕ) (numbers : List ℕ) (f g : ℕ → Bool) (same : (i : ℕ) → i < length row → f i ≡ g i) where
   same-turns : turnsOf (length row) (tick quota f (length numbers)) ≡ turnsOf (length row) (tick quota g (length numbers))
   unfolding turnsOf callRefusal
@@ -306,7 +302,8 @@ module _ (row : List Drive) (quota : ℕ) (numbers : List ℕ) (f g : ℕ → Bo
       ≡ rowAfter hallStep row (turnsOf (length row) (tick quota g (length numbers)))
   same-drives = ap (rowAfter hallStep row) same-turns
 
-  same-numbers : answersAfter hallStep row (tick quota f (length numbers)) numbers ≡ answersAfter hallStep row (tick quota g (length numbers)) numbers
+  same-numbers : answersAfter hallStep row (tick quota f (length numbers)) numbers
+      ≡ answersAfter hallStep row (tick quota g (length numbers)) numbers
   unfolding answersAfter
   same-numbers = ap (λ (ts : List Turn). answersIn tickNumber (turned hallStep row ts) numbers) same-turns
 
@@ -321,16 +318,18 @@ determined row quota numbers a b after other filled more r t same = (
 )
 
 -- every set that may be sent is that of a result
-pub every-set : (row : List Drive) (quota : ℕ) (sends : ℕ → Bool) (numbers : List ℕ) → P.answerTo (length row) (tick quota sends (length numbers)) ≡ 0
+pub every-set : (row : List Drive) (quota : ℕ) (sends : ℕ → Bool) (numbers : List ℕ)
+    → P.answerTo (length row) (tick quota sends (length numbers)) ≡ 0
     → P.MaySend quota row sends
     → (let c = tick quota sends (length numbers) in
     Result row quota numbers 0 (rowAfter hallStep row (turnsOf (length row) c)) (answersAfter hallStep row c numbers))
 every-set row quota sends numbers ok m =
-    let filled = answersAfter hallStep row (tick quota sends (length numbers)) numbers in
+    let c = tick quota sends (length numbers) in
+    let filled = answersAfter hallStep row c numbers in
     let same : (i : ℕ) → i < length row → sends i ≡ sentBy filled i =
     λ i h. sym (told-sent row quota sends numbers ok i h (m .due i h)) in
     record {
-      refusal = sym (sym (same-answer row quota numbers sends (sentBy filled) same) ∙ same-call (length row) (tick quota sends (length numbers)) ∙ ok);
+      refusal = sym (same-call (length row) c ∙ ok) ∙ same-answer row quota numbers sends (sentBy filled) same;
       choice = same-allowed-call quota row (sentBy filled) (length numbers) .1 (λ z. may-by quota row sends (sentBy filled) same m);
       drives = same-drives row quota numbers sends (sentBy filled) same;
       told = same-numbers row quota numbers sends (sentBy filled) same;
