@@ -18,7 +18,7 @@ use Rattle.sentences.specs.Refusals.{same-choice, same-kind}
 use Rattle.sentences.specs.Rules.{at-most}
 use Rattle.sentences_hall.specs.Paper as P
 
-pub same-if : (a b : Bool) → (a ≡ true → b ≡ true) → (b ≡ true → a ≡ true) → a ≡ b
+same-if : (a b : Bool) → (a ≡ true → b ≡ true) → (b ≡ true → a ≡ true) → a ≡ b
 same-if true b f g = sym (f refl)
 same-if false true f g = g refl
 same-if false false f g = refl
@@ -104,8 +104,8 @@ twice-by : (x : ℕ) (list xs rest ys zs : List ℕ) → list ≡ xs ++ x ∷ re
 twice-by x list xs rest ys zs e f =
     record { number = x; before = xs; amid = ys; after = zs; parts = e ∙ rw f (sym (append-assoc xs (x ∷ ys) (x ∷ zs))) }
 
-pub often-twice : (list : List ℕ) → often list ≡ true → P.NamedTwice list
-often-twice list e =
+twice-often : (list : List ℕ) → often list ≡ true → P.NamedTwice list
+twice-often list e =
     let f = some-found list (λ x. P.howOften x list exceeds 1) e in
     let x = f .0 in
     let h : 1 < P.howOften x list = ltb-true 1 (P.howOften x list) (f .1) in
@@ -113,13 +113,17 @@ often-twice list e =
     let t = often-split x (r .1) (omega (arith, h, r .3)) in
     twice-by x list (r .0) (r .1) (t .0) (t .1) (r .2) (t .2)
 
-pub same-twice : (list : List ℕ) → namesTwice list ≡ often list
+pub often-twice : (list : List ℕ) → (often list ≡ true) ↔ P.NamedTwice list
+often-twice list = (
+  twice-often list,
+  λ t. subst (λ (l : List ℕ). often l ≡ true) (sym (t .parts)) (often-amid (t .number) (t .before) (t .amid) (t .after)),
+)
+
+same-twice : (list : List ℕ) → namesTwice list ≡ often list
 same-twice list =
     same-if (namesTwice list) (often list)
-    (λ e.
-    let t = split-twice list e in
-    subst (λ (l : List ℕ). often l ≡ true) (sym (t .parts)) (often-amid (t .number) (t .before) (t .amid) (t .after)))
-    (λ e. twice-named list .1 (often-twice list e))
+    (λ e. often-twice list .1 (twice-named list .0 e))
+    (λ e. twice-named list .1 (often-twice list .0 e))
 
 -- ── The conditions, one by one ──
 
@@ -130,7 +134,7 @@ none-or-less (suc n) = le-ltb (suc n) 1 (omega arith) ∙ sym (ne-eqb (suc n) 0 
 pub same-row : (n : ℕ) → badRow n ≡ (n is 0 || n exceeds 64)
 same-row n = ap (λ (b : Bool). b || ltb 64 n) (none-or-less n)
 
-same-number : (n : ℕ) (list : List ℕ) → badNumber n list ≡ someOf list (λ i. not (n exceeds i))
+pub same-number : (n : ℕ) (list : List ℕ) → badNumber n list ≡ someOf list (λ i. not (n exceeds i))
 unfolding badNumber
 same-number n [] = refl
 same-number n (i ∷ list) = rw (at-most n i, same-number n list)
@@ -142,7 +146,7 @@ kind-one : (b : Bool) (k : ℕ) → eqb (choose b k 0) 1 ≡ (b && eqb k 1)
 kind-one true k = refl
 kind-one false k = refl
 
-same-tick : (s : List ℕ) → isTick s ≡ P.acceptedTick s
+pub same-tick : (s : List ℕ) → isTick s ≡ P.acceptedTick s
 same-tick s = ap (λ (k : ℕ). eqb k 1) (same-kind s) ∙ kind-one (reader s is 0) (getD s 2 0)
 
 same-event : (list s : List ℕ) (room : ℕ)

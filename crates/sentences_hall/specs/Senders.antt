@@ -102,6 +102,9 @@ is-longest row i r =
     (λ w. rw w)))
     (λ q. rw q))))
 
+pub same-longest : (row : List Drive) (i : ℕ) → i < length row → (longest row i ≡ true) ↔ P.Longest row (length row) i
+same-longest row i l = (longest-is row i l, is-longest row i)
+
 -- it is one
 pub one-longest : (row : List Drive) (n i j : ℕ) → P.Longest row n i → P.Longest row n j → i ≡ j
 one-longest row n i j r t =
@@ -254,8 +257,8 @@ some-may quota row h =
       first = λ i r. is-longest row i r;
     }
 
-pub some-set : (quota : ℕ) (row : List Drive) → 1 ≤ quota → (sends : ℕ → Bool) × P.MaySend quota row sends
-some-set quota row h = (longest row, some-may quota row h)
+pub some-set : (quota : ℕ) (row : List Drive) → 1 ≤ quota → (sends : ℕ → Bool) × (allowed quota row sends ≡ true)
+some-set quota row h = (longest row, may-be-sent quota row (longest row) (some-may quota row h))
 
 -- what may be sent does not look beyond the row
 many-same : (n : ℕ) (f g : ℕ → Bool) → ((i : ℕ) → i < n → f i ≡ g i) → P.howMany n f ≡ P.howMany n g

@@ -1,9 +1,9 @@
 -- The page to read first. Each sentence of document 02's W-201, W-203, W-204 and W-205, as they stand together, that a definition of the
 -- product states is here a theorem for every input: on one side the definition that the contracts name, on the other the sentence as
 -- `Paper` says it a second time. `P1` is document 01 in its second form: a drive's step, its advance and its status have their page there.
-use mathlib.Core.Path.{_≡_, refl, sym, _∙_}
+use mathlib.Core.Path.{_≡_, refl}
 use mathlib.Core.Logic.{_↔_}
-use mathlib.Core.Bool.{Bool, true, false, _&&_}
+use mathlib.Core.Bool.{Bool, true, false, not, _&&_, _||_}
 use mathlib.Core.List.{List, [], _∷_}
 use Prim.Native.Nat.{ℕ, suc, _+_, _-_, _*_, _≤_, _<_}
 use lib.ListN.{length, getD, take, drop}
@@ -12,7 +12,9 @@ use Rattle.damper.specs.Record.{freshDrive}
 use Rattle.damper.specs.Tick.{advance, statusOf}
 use Rattle.damper.specs.Step.{refusalOf, stepOf}
 use Rattle.choice.specs.Sent.{sentBy}
+use Rattle.hall.specs.Hall.{badRow, badNumber, isTick, namedIn, namesTwice}
 use Rattle.hall.specs.Hall.{Call, give, tick, callRefusal, bytes, hallTick, bytesIn, turnsOf, rowAfter, answersAfter, hallAfter, share}
+use Rattle.hall.specs.Quota as Quota
 use Rattle.hall.specs.Quota.{dueNow, hallStep, allowed, allowedCall, allowedCalls}
 use Rattle.shift.specs.Shift.{driveLine, pageRefusal, pageAfter}
 use Rattle.shift.specs.Laws.{line-length, page-length}
@@ -35,9 +37,25 @@ use Rattle.sentences_hall.specs.Page as Page
 pub answers-with : (n : ℕ) (c : Call) → callRefusal n c ≡ firstThatFits (P.ofTheCall n c)
 answers-with n c = Refused.same-call n c
 
--- "a list names a drive twice"
+-- "a list names a drive twice": one number stands at two places of it
 pub named-twice : (list : List ℕ) → (someOf list (λ x. P.howOften x list exceeds 1) ≡ true) ↔ P.NamedTwice list
-named-twice list = (Refused.often-twice list, λ t. sym (Refused.same-twice list) ∙ Refused.twice-named list .1 t)
+named-twice list = Refused.often-twice list
+
+-- the same condition by condition
+pub bad-row : (n : ℕ) → badRow n ≡ (n is 0 || n exceeds 64)
+bad-row n = Refused.same-row n
+
+pub bad-number : (n : ℕ) (list : List ℕ) → badNumber n list ≡ someOf list (λ i. not (n exceeds i))
+bad-number n list = Refused.same-number n list
+
+pub is-tick : (s : List ℕ) → isTick s ≡ P.acceptedTick s
+is-tick s = Refused.same-tick s
+
+pub names-twice : (list : List ℕ) → (namesTwice list ≡ true) ↔ P.NamedTwice list
+names-twice list = Refused.twice-named list
+
+pub names : (i : ℕ) (list : List ℕ) → (namedIn i list ≡ true) ↔ P.Listed i list
+names i list = Turns.same-named i list
 
 -- "nothing is touched"
 pub refused : (row : List Drive) (c : Call) (answers : List ℕ) (k : ℕ) → P.answerTo (length row) c ≡ suc k
@@ -125,9 +143,13 @@ module _ (row : List Drive) (quota : ℕ) (sends : ℕ → Bool) (numbers : List
     pub not-due : P1.WellFormed d → (P.Due d → ⊥) → sends i ≡ false → (P.drive ticked i ≡ n with (F.wait ≔ 0 ∷ [])) × (getD filled i 0 ≡ 0)
     not-due f u s = Turns.undue-ticked row quota sends numbers ok i h f u s
 
-    -- who is sent is read off the numbers
+    -- who is sent is read off the numbers: those of 65,536 and above
     pub sent-told : P.MaySend quota row sends → sentBy filled i ≡ sends i
     sent-told m = Turns.told-sent row quota sends numbers ok i h (m .due i h)
+
+-- a report's number
+pub report-number : (numbers : List ℕ) (i : ℕ) → (sentBy numbers i ≡ true) ↔ (65536 ≤ getD numbers i 0)
+report-number numbers i = Turns.report-number numbers i
 
 -- ── W-204: who is sent ──
 
@@ -137,6 +159,10 @@ due d = Senders.same-due-now d
 
 pub due-reports : (d : Drive) → (dueNow d ≡ true) ↔ P1.IsReport (stepOf d (0x5a ∷ 0xc3 ∷ 1 ∷ 0 ∷ 0 ∷ 0 ∷ []) .answer)
 due-reports d = Senders.due-reports d
+
+-- "the one that waited longest .., lower number first among equals"
+pub longest : (row : List Drive) (i : ℕ) → i < length row → (Quota.longest row i ≡ true) ↔ P.Longest row (length row) i
+longest row i h = Senders.same-longest row i h
 
 -- "sends at most that many reports"; "If any is due, the one that waited longest goes, lower number first among equals; which other due
 -- drives go is free."
@@ -169,8 +195,8 @@ pub one-longest : (row : List Drive) (i j : ℕ) → P.Longest row (length row) 
 one-longest row i j r t = Senders.one-longest row (length row) i j r t
 
 -- some set may be sent, of every row and quota
-pub some-may : (quota : ℕ) (row : List Drive) → 1 ≤ quota → (sends : ℕ → Bool) × P.MaySend quota row sends
-some-may quota row h = Senders.some-set quota row h
+pub some-set : (quota : ℕ) (row : List Drive) → 1 ≤ quota → (sends : ℕ → Bool) × (allowed quota row sends ≡ true)
+some-set quota row h = Senders.some-set quota row h
 
 -- every set that may be sent is that of a result which the contract admits, and the set decides the result
 pub every-set : (row : List Drive) (quota : ℕ) (sends : ℕ → Bool) (numbers : List ℕ)
@@ -199,7 +225,7 @@ calls-after row c cs = Shared.more-after row c cs
 pub share-of-none : (n i : ℕ) → share n i [] ≡ []
 share-of-none n i = Shared.no-calls n i
 
-module _ (n i : ℕ) (h : i < n) (cs : List Call) where
+module _ (n i : ℕ) (cs : List Call) where
   -- "a hall call refused itself belongs to no share"
   pub share-refused : (c : Call) (k : ℕ) → P.answerTo n c ≡ suc k → share n i (c ∷ cs) ≡ share n i cs
   share-refused c k e = Shared.refused-share n i cs c k e
@@ -214,9 +240,9 @@ module _ (n i : ℕ) (h : i < n) (cs : List Call) where
   share-not-named list s room ok l = Shared.unnamed-share n i cs list s room ok l
 
   -- a hall tick, sent or not
-  pub share-tick : (quota : ℕ) (sends : ℕ → Bool) (room : ℕ) → P.answerTo n (tick quota sends room) ≡ 0
+  pub share-tick : (quota : ℕ) (sends : ℕ → Bool) (room : ℕ) → P.answerTo n (tick quota sends room) ≡ 0 → i < n
       → share n i (tick quota sends room ∷ cs) ≡ hallTick (sends i) ∷ share n i cs
-  share-tick quota sends room ok = Shared.tick-share n i cs quota sends room ok h
+  share-tick quota sends room ok h = Shared.tick-share n i cs quota sends room ok h
 
 -- as an event record a hall tick is a tick
 pub bytes-of-event : (s : List ℕ) → bytesIn (bytes s) ≡ s

@@ -1,5 +1,6 @@
 -- Proofs: what the calls leave in the row and in the row that is lent for their answers, place by place.
 use mathlib.Core.Path.{_≡_, refl, sym, ap, _∙_}
+use mathlib.Core.Logic.{_↔_}
 use mathlib.Core.Bool.{Bool, true, false, _&&_, and-false}
 use mathlib.Core.List.{List, [], _∷_, _++_, map}
 use Prim.Native.Nat.{ℕ, zero, suc, _+_, _-_, _*_, _≤_, _<_}
@@ -8,7 +9,7 @@ use native.Mathlib.Nat.{not-suc-le-zero, le-of-suc-le-suc}
 use lib.Dec.{ltb, eqb}
 use lib.ListN.{length, getD, drop, length-map, List·getD-append, List·getD-eq-default}
 use lib.Seq.{getD-append-add, getD-drop}
-use borrow.Author.Tests.{eqb-true, eqb-false, eq-eqb, ne-eqb, ltb-true, ltb-false, lt-ltb, le-ltb, le-leb}
+use borrow.Author.Tests.{eqb-true, eqb-false, eq-eqb, ne-eqb, ltb-true, ltb-false, lt-ltb, le-ltb, leb-true, le-leb}
 use Rattle.numbers.specs.Numbers.{pick, next}
 use Rattle.numbers.specs.Laws.{cases}
 use Rattle.numbers.specs.Places.{tabulate}
@@ -77,10 +78,13 @@ map-at f (i ∷ list) (suc k) h = map-at f list k (le-of-suc-le-suc h)
 pub is-named : (i : ℕ) (list : List ℕ) → P.Listed i list → namedIn i list ≡ true
 is-named i list l = rw (← (l .stands)) (named-at list (l .place) (l .within))
 
+pub same-named : (i : ℕ) (list : List ℕ) → (namedIn i list ≡ true) ↔ P.Listed i list
+same-named i list = (λ e. let p = named-place i list e in record { place = p .0; within = p .1; stands = p .2 }, is-named i list)
+
 pub is-unnamed : (i : ℕ) (list : List ℕ) → (P.Listed i list → ⊥) → namedIn i list ≡ false
 is-unnamed i list n =
     cases (namedIn i list)
-    (λ q. let p = named-place i list q in absurd (n record { place = p .0; within = p .1; stands = p .2 }))
+    (λ q. absurd (n (same-named i list .0 q)))
     (λ q. q)
 
 module _ (row : List Drive) (list s answers : List ℕ) where
@@ -284,6 +288,10 @@ module _ (row : List Drive) (quota : ℕ) (sends : ℕ → Bool) (numbers : List
           (λ w.
           let n : getD filled i 0 ≡ 1 = number-at i h ∙ unformed-number (sends i) d w .0 in
           rw n)))
+
+-- the numbers of reports
+pub report-number : (numbers : List ℕ) (i : ℕ) → (sentBy numbers i ≡ true) ↔ (65536 ≤ getD numbers i 0)
+report-number numbers i = (leb-true 65536 (getD numbers i 0), le-leb 65536 (getD numbers i 0))
 
 -- ── Who is sent decides all else ──
 
