@@ -67,7 +67,7 @@ three-columns n h =
     let same : n / 10 / 10 ≡ n / 100 % 10 = omega arith in
     rw (decimal-three n m (omega arith), e, f, same)))
 
--- ── The commander, to the left ──
+-- ── The name of who rules, to the left ──
 
 abbrev letters : ℕ → List ℕ
 letters r =
@@ -93,16 +93,16 @@ at-most-6 false false false false true f = omega arith
 at-most-6 false false false false false true = omega arith
 at-most-6 false false false false false false = omega arith
 
-same-commander : (d : Drive) → ruling d ≡ P.commander d
-same-commander d =
+same-now : (d : Drive) → ruling d ≡ P.rulingNow d
+same-now d =
     same-ruling (d .commands) (d .run .kind) (busOn d)
     ∙ ap (λ (b : Bool). firstThatFits (P1.commanders (d .commands) (d .run .kind) b)) (same-bus (d .commands) (d .age) (d .params))
 
-commander-columns : (d : Drive) → S.left 8 (S.nameOf (rulingSource d)) ≡ letters (P.commander d)
-commander-columns d =
+ruling-columns : (d : Drive) → S.left 8 (S.nameOf (rulingSource d)) ≡ letters (P.rulingNow d)
+ruling-columns d =
     let c = d .commands in
-    ap (λ (r : ℕ). S.left 8 (S.nameOf (sourceAt r))) (same-commander d)
-    ∙ name-columns (P.commander d)
+    ap (λ (r : ℕ). S.left 8 (S.nameOf (sourceAt r))) (same-now d)
+    ∙ name-columns (P.rulingNow d)
     (at-most-6 (c .fault is 1) (c .forcing is 2 || c .forcing is 3) (d .run .kind isNot 0) (c .hand is 1) (c .tool is 1)
     (P1.busActive c (d .age) (d .params)))
 
@@ -118,7 +118,7 @@ formed-line number d h p f =
     let two = two-columns number h in
     let position = three-columns (d .position) p in
     let percent = three-columns (toPercent (d .position)) (percent-few (d .position) p) in
-    let name = commander-columns d in
+    let name = ruling-columns d in
     rw (same-formed d .1 f)
     (λ i. two i ++ (spaced (position i ∷ percent i ∷ name i ∷ S.binary 8 (statusOf d) ∷ []) ++ (10 ∷ [])))
 

@@ -114,9 +114,9 @@ digit w v = choose (w exceeds v) 32 (48 + v / w % 10)
 abbrev pub ones : ℕ → ℕ
 ones v = 48 + v % 10
 
--- "ruling commander": the highest rank that is active, of the record as it is
-abbrev pub commander : Drive → ℕ
-commander d = firstThatFits (P1.commanders (d .commands) (d .run .kind) (P1.busActive (d .commands) (d .age) (d .params)))
+-- "ruling commander": the highest rank (document 01: ruling) that is active, of the record as it is
+abbrev pub rulingNow : Drive → ℕ
+rulingNow d = firstThatFits (P1.commanders (d .commands) (d .run .kind) (P1.busActive (d .commands) (d .age) (d .params)))
 
 -- "(fault, forced, run, hand, tool, bus, backup)", from rank 0 on
 abbrev pub names : List (List ℕ)
@@ -136,7 +136,7 @@ abbrev pub lineOf : ℕ → Drive → List ℕ
 lineOf number d =
     let p = d .position in
     let c = toPercent p in
-    let r = commander d in
+    let r = rulingNow d in
     let s = statusOf d in
     digit 10 number ∷ ones number ∷ 32
     ∷ digit 100 p ∷ digit 10 p ∷ ones p ∷ 32
