@@ -1,0 +1,9 @@
+-- Document 02's W-201, W-203, W-204 and W-205 a second time, sentence by sentence, and that the definitions agree with it for every input.
+pub mod Paper
+pub mod Contract
+pub mod Refused
+pub mod Senders
+pub mod Turns
+pub mod Shared
+pub mod Page
+pub mod Sentences

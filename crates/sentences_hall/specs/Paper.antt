@@ -1,0 +1,150 @@
+-- Document 02, W-201, W-203, W-204 and W-205, sentence by sentence, in a second form. `P1` is document 01 in its second form.
+use mathlib.Core.Path.{_≡_}
+use mathlib.Core.Bool.{Bool, true, not, _&&_, _||_}
+use mathlib.Core.List.{List, [], _∷_, _++_}
+use Prim.Native.Nat.{ℕ, zero, suc, _+_, _*_, _/_, _%_, _^_, _≤_, _<_}
+use lib.ListN.{length, getD}
+use Rattle.motion.specs.Motion.{toPercent}
+use Rattle.damper.specs.declared.Drive.{Drive}
+use Rattle.damper.specs.Record.{freshDrive}
+use Rattle.damper.specs.Tick.{advance, statusOf}
+use Rattle.line.specs.Text.{text}
+use Rattle.hall.specs.Hall.{Call, give, tick}
+use Rattle.sentences.specs.Words.{_is_, _exceeds_, between, someOf, Condition, choose, firstThatFits}
+use Rattle.sentences.specs.Paper as P1
+
+-- ── W-201: a hall of drives; W-205: twice on one list ──
+
+-- "Drives are numbered from 0"
+abbrev pub drive : List Drive → ℕ → Drive
+drive row i = getD row i freshDrive
+
+-- a list names the drive with this number: it stands at a place of it
+pub record Listed (i : ℕ) (list : List ℕ) : Type 0 where
+  pub place : ℕ
+  pub within : place < length list
+  pub stands : getD list place 0 ≡ i
+
+-- "a list names a drive twice": a number stands at two places of it
+pub record NamedTwice (list : List ℕ) : Type 0 where
+  pub number : ℕ
+  pub before : List ℕ
+  pub amid : List ℕ
+  pub after : List ℕ
+  pub parts : list ≡ before ++ number ∷ amid ++ number ∷ after
+
+-- how often it stands there
+abbrev pub howOften : ℕ → List ℕ → ℕ
+howOften x [] = 0
+howOften x (y ∷ list) = choose (y is x) 1 0 + howOften x list
+
+-- "a tick that the reader accepts": none of 2 to 8 fits, and the kind is 1
+abbrev pub acceptedTick : List ℕ → Bool
+acceptedTick s =
+    firstThatFits (P1.ofTheBytes s ++ P1.ofTheData (getD s 2 0) (getD s 3 0) (getD s 4 0) (getD s 5 0)) is 0 && getD s 2 0 is 1
+
+-- "14 when the row holds no drive or over 64."
+abbrev pub ofTheRow : ℕ → Condition
+ofTheRow n = (14, n is 0 || n exceeds 64)
+
+-- the refusals of a call on `n` drives, "in this order", with `room` places in the row that is lent for its answers
+abbrev pub ofTheCall : ℕ → Call → List Condition
+ofTheCall n (give list s room) =
+    ofTheRow n
+    -- "15 when a listed drive number is not below the row's length."
+    ∷ (15, someOf list (λ i. not (n exceeds i)))
+    -- "16 when the bytes are a tick that the reader accepts, the list has over 64 entries, or the answer row is shorter than the list"
+    ∷ (16, acceptedTick s || (length list exceeds 64 || length list exceeds room))
+    -- "19 when a list names a drive twice, checked after 16"
+    ∷ (19, someOf list (λ x. howOften x list exceeds 1))
+    ∷ []
+ofTheCall n (tick quota sends room) =
+    ofTheRow n
+    -- "(for the hall tick, than the row of drives)"
+    ∷ (16, n exceeds room)
+    -- "18 when the quota is outside 1 to 64, after 16"
+    ∷ (18, not (between 1 64 quota))
+    ∷ []
+
+-- the number that a call answers with; "a call that isn't refused itself answers 0"
+abbrev pub answerTo : ℕ → Call → ℕ
+answerTo n c = firstThatFits (ofTheCall n c)
+
+-- ── W-204: quiet line ──
+
+-- step 4 of a tick would report, by the record that steps 1 to 3 leave
+abbrev pub WouldReport : Drive → Type 0
+WouldReport n = P1.Due (n .params) (n .since) (n .position) (statusOf n) (n .last .reported) (n .last .position) (n .last .status)
+
+-- "A well-formed drive is due when the fourth step of a tick would report."
+pub record Due (d : Drive) : Type 0 where
+  pub formed : P1.WellFormed d
+  pub reports : WouldReport (advance d .drive)
+
+-- of the due drives with a number below `n`, "the one that waited longest .., lower number first among equals"
+pub record Longest (row : List Drive) (n i : ℕ) : Type 0 where
+  pub there : i < n
+  pub due : Due (drive row i)
+  pub longest : (j : ℕ) → j < n → Due (drive row j) → drive row j .wait ≤ drive row i .wait
+  pub lower : (j : ℕ) → j < n → Due (drive row j) → drive row j .wait ≡ drive row i .wait → i ≤ j
+
+-- how many of the drives 0 to n - 1 are sent
+abbrev pub howMany : ℕ → (ℕ → Bool) → ℕ
+howMany zero sends = 0
+howMany (suc n) sends = choose (sends 0) 1 0 + howMany n (λ i. sends (suc i))
+
+-- whom a hall tick may send: due drives, "at most that many reports", and "If any is due, the one that waited longest goes"; "which other
+-- due drives go is free"
+pub record MaySend (quota : ℕ) (row : List Drive) (sends : ℕ → Bool) : Type 0 where
+  pub due : (i : ℕ) → i < length row → sends i ≡ true → Due (drive row i)
+  pub few : howMany (length row) sends ≤ quota
+  pub first : (i : ℕ) → Longest row (length row) i → sends i ≡ true
+
+-- ── W-203: shift page ──
+
+-- "17 when the lent page is shorter than 29 bytes per drive, checked after 14"
+abbrev pub ofThePage : ℕ → ℕ → List Condition
+ofThePage drives bytes = ofTheRow drives ∷ (17, 29 * drives exceeds bytes) ∷ []
+
+-- a column of a number that is printed "to the right": its digit of weight `w`, or a blank where it has none
+abbrev pub digit : ℕ → ℕ → ℕ
+digit w v = choose (w exceeds v) 32 (48 + v / w % 10)
+
+-- the last column of it
+abbrev pub ones : ℕ → ℕ
+ones v = 48 + v % 10
+
+-- "ruling commander": the highest rank (document 01: ruling) that is active, of the record as it is
+abbrev pub rulingNow : Drive → ℕ
+rulingNow d = firstThatFits (P1.commanders (d .commands) (d .run .kind) (P1.busActive (d .commands) (d .age) (d .params)))
+
+-- "(fault, forced, run, hand, tool, bus, backup)", from rank 0 on
+abbrev pub names : List (List ℕ)
+names = text "backup" ∷ text "bus" ∷ text "tool" ∷ text "hand" ∷ text "run" ∷ text "forced" ∷ text "fault" ∷ []
+
+-- a column of a name that is printed "to the left": its letter, or a blank behind the last
+abbrev pub letter : ℕ → ℕ → ℕ
+letter rank k = getD (getD names rank []) k 32
+
+-- a column of the status: its binary digit at a bit
+abbrev pub binary : ℕ → ℕ → ℕ
+binary status bit = 48 + status / 2 ^ bit % 2
+
+-- "exactly 28 columns and a line feed: number 2, position 3, percent 3, all to the right; ruling commander 8, to the left ..; status as 8
+-- binary digits, highest bit first; one blank between fields": the columns from 0 to 28 of a well-formed drive
+abbrev pub lineOf : ℕ → Drive → List ℕ
+lineOf number d =
+    let p = d .position in
+    let c = toPercent p in
+    let r = rulingNow d in
+    let s = statusOf d in
+    digit 10 number ∷ ones number ∷ 32
+    ∷ digit 100 p ∷ digit 10 p ∷ ones p ∷ 32
+    ∷ digit 100 c ∷ digit 10 c ∷ ones c ∷ 32
+    ∷ letter r 0 ∷ letter r 1 ∷ letter r 2 ∷ letter r 3 ∷ letter r 4 ∷ letter r 5 ∷ letter r 6 ∷ letter r 7 ∷ 32
+    ∷ binary s 7 ∷ binary s 6 ∷ binary s 5 ∷ binary s 4 ∷ binary s 3 ∷ binary s 2 ∷ binary s 1 ∷ binary s 0 ∷ 10
+    ∷ []
+
+-- "A record that isn't well formed shows its number and minus signs filling the other fields."
+abbrev pub lineWithout : ℕ → List ℕ
+lineWithout number = digit 10 number ∷ ones number ∷ text " --- --- -------- --------\n"

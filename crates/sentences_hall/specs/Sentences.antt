@@ -1,0 +1,300 @@
+-- The page to read first. Each sentence of document 02's W-201, W-203, W-204 and W-205, as they stand together, that a definition of the
+-- product states is here a theorem for every input: on one side the definition that the contracts name, on the other the sentence as
+-- `Paper` says it a second time. `P1` is document 01 in its second form: a drive's step, its advance and its status have their page there.
+use mathlib.Core.Path.{_≡_, refl}
+use mathlib.Core.Logic.{_↔_}
+use mathlib.Core.Bool.{Bool, true, false, not, _&&_, _||_}
+use mathlib.Core.List.{List, [], _∷_}
+use Prim.Native.Nat.{ℕ, suc, _+_, _-_, _*_, _≤_, _<_}
+use lib.ListN.{length, getD, take, drop}
+use Rattle.damper.specs.declared.Drive.{Drive}
+use Rattle.damper.specs.Record.{freshDrive}
+use Rattle.damper.specs.Tick.{advance, statusOf}
+use Rattle.damper.specs.Step.{refusalOf, stepOf}
+use Rattle.choice.specs.Sent.{sentBy}
+use Rattle.hall.specs.Hall.{badRow, badNumber, isTick, namedIn, namesTwice}
+use Rattle.hall.specs.Hall.{Call, give, tick, callRefusal, bytes, hallTick, bytesIn, turnsOf, rowAfter, answersAfter, hallAfter, share}
+use Rattle.hall.specs.Quota as Quota
+use Rattle.hall.specs.Quota.{dueNow, hallStep, allowed, allowedCall, allowedCalls}
+use Rattle.shift.specs.Shift.{driveLine, pageRefusal, pageAfter}
+use Rattle.shift.specs.Laws.{line-length, page-length}
+use Rattle.sentences.specs.Words.{_is_, _exceeds_, someOf, choose, firstThatFits}
+use Rattle.sentences.specs.Fields as F
+use Rattle.sentences.specs.Fields.{_≔_, _with_}
+use Rattle.sentences.specs.Paper as P1
+use Rattle.sentences_hall.specs.Paper as P
+use Rattle.sentences_hall.specs.Contract.{Result}
+use Rattle.sentences_hall.specs.Refused as Refused
+use Rattle.sentences_hall.specs.Senders as Senders
+use Rattle.sentences_hall.specs.Turns as Turns
+use Rattle.sentences_hall.specs.Shared as Shared
+use Rattle.sentences_hall.specs.Page as Page
+
+-- ── When a call is refused itself ──
+
+-- "14 when the row holds no drive or over 64. 15 when .. 16 when .."; W-204: "18 when .., after 16"; W-205: "19 when .., checked after
+-- 16": the first that fits, and "a call that isn't refused itself answers 0"
+pub answers-with : (n : ℕ) (c : Call) → callRefusal n c ≡ firstThatFits (P.ofTheCall n c)
+answers-with n c = Refused.same-call n c
+
+-- "a list names a drive twice": one number stands at two places of it
+pub named-twice : (list : List ℕ) → (someOf list (λ x. P.howOften x list exceeds 1) ≡ true) ↔ P.NamedTwice list
+named-twice list = Refused.often-twice list
+
+-- the same condition by condition
+pub bad-row : (n : ℕ) → badRow n ≡ (n is 0 || n exceeds 64)
+bad-row n = Refused.same-row n
+
+pub bad-number : (n : ℕ) (list : List ℕ) → badNumber n list ≡ someOf list (λ i. not (n exceeds i))
+bad-number n list = Refused.same-number n list
+
+pub is-tick : (s : List ℕ) → isTick s ≡ P.acceptedTick s
+is-tick s = Refused.same-tick s
+
+pub names-twice : (list : List ℕ) → (namesTwice list ≡ true) ↔ P.NamedTwice list
+names-twice list = Refused.twice-named list
+
+pub names : (i : ℕ) (list : List ℕ) → (namedIn i list ≡ true) ↔ P.Listed i list
+names i list = Turns.same-named i list
+
+-- "nothing is touched"
+pub refused : (row : List Drive) (c : Call) (answers : List ℕ) (k : ℕ) → P.answerTo (length row) c ≡ suc k
+    → (rowAfter hallStep row (turnsOf (length row) c) ≡ row) × (answersAfter hallStep row c answers ≡ answers)
+refused row c answers k e = (Turns.refused-row row c k e, Turns.refused-answers row c k e answers)
+
+-- ── "One call gives the bytes of an event other than a tick to a list of drives, in list order" ──
+module _ (row : List Drive) (list s answers : List ℕ) where
+  abbrev given : List Drive
+  given = rowAfter hallStep row (turnsOf (length row) (give list s (length answers)))
+
+  abbrev answered : List ℕ
+  answered = answersAfter hallStep row (give list s (length answers)) answers
+
+  -- both rows keep their length
+  pub event-lengths : (length given ≡ length row) × (length answered ≡ length answers)
+  event-lengths = (Turns.event-length row list s answers, Turns.answers-length row list s answers)
+
+  module _ (ok : P.answerTo (length row) (give list s (length answers)) ≡ 0) where
+    -- a drive that the list names takes the event
+    pub named : (i : ℕ) → i < length row → P.Listed i list → P.drive given i ≡ stepOf (P.drive row i) s .drive
+    named i h l = Turns.named-drive row list s answers ok i h l
+
+    -- "A drive not named keeps every field."
+    pub not-named : (i : ℕ) → i < length row → (P.Listed i list → ⊥) → P.drive given i ≡ P.drive row i
+    not-named i h n = Turns.unnamed-drive row list s answers ok i h n
+
+    -- "one answer number (0 or the refusal) per entry in a lent row"
+    pub entry-answer : (k : ℕ) → k < length list → getD answered k 0 ≡ refusalOf (P.drive row (getD list k 0)) s
+    entry-answer k h = Turns.entry-answer row list s answers ok k h
+
+    -- "Further places of the row keep their content."
+    pub further-answers : (k : ℕ) → length list ≤ k → getD answered k 0 ≡ getD answers k 0
+    further-answers k h = Turns.further-answer row list s answers ok k h
+
+-- W-204: "Restart clears the wait; otherwise only hall ticks change it."
+pub wait-of-event : (d : Drive) (s : List ℕ)
+    → stepOf d s .drive .wait ≡ choose (refusalOf d s is 0 && getD s 2 0 is 9) 0 (d .wait)
+wait-of-event d s = Turns.wait-of-event d s
+
+-- "fresh .. it is 0"
+pub wait-of-fresh : freshDrive .wait ≡ 0
+wait-of-fresh = refl
+
+-- ── "One call ticks them all and fills one number per drive in such a row", the drives given that it sends ──
+module _ (row : List Drive) (quota : ℕ) (sends : ℕ → Bool) (numbers : List ℕ)
+    (ok : P.answerTo (length row) (tick quota sends (length numbers)) ≡ 0) where
+  abbrev ticked : List Drive
+  ticked = rowAfter hallStep row (turnsOf (length row) (tick quota sends (length numbers)))
+
+  abbrev filled : List ℕ
+  filled = answersAfter hallStep row (tick quota sends (length numbers)) numbers
+
+  -- both rows keep their length, and "Further places of the row keep their content."
+  pub tick-lengths : (length ticked ≡ length row) × (length filled ≡ length numbers)
+  tick-lengths = (Turns.ticked-length row quota sends numbers, Turns.filled-length row quota sends numbers ok)
+
+  pub further-numbers : (i : ℕ) → length row ≤ i → getD filled i 0 ≡ getD numbers i 0
+  further-numbers i h = Turns.further-number row quota sends numbers ok i h
+
+  module _ (i : ℕ) (h : i < length row) where
+    abbrev d : Drive
+    d = P.drive row i
+
+    -- the record that steps 1 to 3 of the tick leave
+    abbrev n : Drive
+    n = advance d .drive
+
+    -- "1 for a drive not well formed, which stays unticked"; "a drive not well formed keeps it"
+    pub unticked : (P1.WellFormed d → ⊥) → (P.drive ticked i ≡ d) × (getD filled i 0 ≡ 1)
+    unticked f = Turns.unformed-ticked row quota sends numbers ok i h f
+
+    -- "65,536 + 256 × position + status for a report"; "sent .. it is 0"
+    pub sent : P1.WellFormed d → sends i ≡ true
+        → (P.drive ticked i
+        ≡ n with (F.since ≔ 0 ∷ F.reported ≔ 1 ∷ F.lastPosition ≔ n .position ∷ F.lastStatus ≔ statusOf n ∷ F.wait ≔ 0 ∷ []))
+        × (getD filled i 0 ≡ 65536 + 256 * n .position + statusOf n)
+    sent f s = Turns.sent-ticked row quota sends numbers ok i h f s
+
+    -- "0 silent"; "how many hall ticks in a row it was due and not sent, stopping at 65,535"
+    pub held : P.Due d → sends i ≡ false → (P.drive ticked i ≡ n with (F.wait ≔ P1.oneMore (d .wait) ∷ [])) × (getD filled i 0 ≡ 0)
+    held f s = Turns.held-ticked row quota sends numbers ok i h f s
+
+    -- "not due it is 0"
+    pub not-due : P1.WellFormed d → (P.Due d → ⊥) → sends i ≡ false → (P.drive ticked i ≡ n with (F.wait ≔ 0 ∷ [])) × (getD filled i 0 ≡ 0)
+    not-due f u s = Turns.undue-ticked row quota sends numbers ok i h f u s
+
+    -- who is sent is read off the numbers: those of 65,536 and above
+    pub sent-told : P.MaySend quota row sends → sentBy filled i ≡ sends i
+    sent-told m = Turns.told-sent row quota sends numbers ok i h (m .due i h)
+
+-- a report's number
+pub report-number : (numbers : List ℕ) (i : ℕ) → (sentBy numbers i ≡ true) ↔ (65536 ≤ getD numbers i 0)
+report-number numbers i = Turns.report-number numbers i
+
+-- ── W-204: who is sent ──
+
+-- "A well-formed drive is due when the fourth step of a tick would report."
+pub due : (d : Drive) → (dueNow d ≡ true) ↔ P.Due d
+due d = Senders.same-due-now d
+
+pub due-reports : (d : Drive) → (dueNow d ≡ true) ↔ P1.IsReport (stepOf d (0x5a ∷ 0xc3 ∷ 1 ∷ 0 ∷ 0 ∷ 0 ∷ []) .answer)
+due-reports d = Senders.due-reports d
+
+-- "the one that waited longest .., lower number first among equals"
+pub longest : (row : List Drive) (i : ℕ) → i < length row → (Quota.longest row i ≡ true) ↔ P.Longest row (length row) i
+longest row i h = Senders.same-longest row i h
+
+-- "sends at most that many reports"; "If any is due, the one that waited longest goes, lower number first among equals; which other due
+-- drives go is free."
+pub may-send : (quota : ℕ) (row : List Drive) (sends : ℕ → Bool) → (allowed quota row sends ≡ true) ↔ P.MaySend quota row sends
+may-send quota row sends = Senders.same-allowed quota row sends
+
+-- of a hall tick, where it is not refused itself
+pub tick-may-send : (row : List Drive) (quota : ℕ) (sends : ℕ → Bool) (room : ℕ)
+    → (allowedCall row (tick quota sends room) ≡ true) ↔ (P.answerTo (length row) (tick quota sends room) ≡ 0 → P.MaySend quota row sends)
+tick-may-send row quota sends room = Senders.same-allowed-call quota row sends room
+
+-- an event call sends nobody
+pub event-sends-none : (row : List Drive) (list s : List ℕ) (room : ℕ) → allowedCall row (give list s room) ≡ true
+event-sends-none row list s room = refl
+
+-- and of a list of calls, each on the row that the one before left
+pub none-may-send : (row : List Drive) → allowedCalls row [] ≡ true
+none-may-send row = Senders.no-call row
+
+pub calls-may-send : (row : List Drive) (c : Call) (cs : List Call)
+    → (allowedCalls row (c ∷ cs) ≡ true)
+    ↔ ((allowedCall row c ≡ true) × (allowedCalls (rowAfter hallStep row (turnsOf (length row) c)) cs ≡ true))
+calls-may-send row c cs = Senders.one-more-call row c cs
+
+-- "If any is due", there is one that waited longest, and one only
+pub some-longest : (row : List Drive) (k : ℕ) → k < length row → P.Due (P.drive row k) → (i : ℕ) × P.Longest row (length row) i
+some-longest row k h f = Senders.some-longest row k h f
+
+pub one-longest : (row : List Drive) (i j : ℕ) → P.Longest row (length row) i → P.Longest row (length row) j → i ≡ j
+one-longest row i j r t = Senders.one-longest row (length row) i j r t
+
+-- some set may be sent, of every row and quota
+pub some-set : (quota : ℕ) (row : List Drive) → 1 ≤ quota → (sends : ℕ → Bool) × (allowed quota row sends ≡ true)
+some-set quota row h = Senders.some-set quota row h
+
+-- every set that may be sent is that of a result which the contract admits, and the set decides the result
+pub every-set : (row : List Drive) (quota : ℕ) (sends : ℕ → Bool) (numbers : List ℕ)
+    → P.answerTo (length row) (tick quota sends (length numbers)) ≡ 0
+    → P.MaySend quota row sends
+    → (let c = tick quota sends (length numbers) in
+    Result row quota numbers 0 (rowAfter hallStep row (turnsOf (length row) c)) (answersAfter hallStep row c numbers))
+every-set row quota sends numbers ok m = Turns.every-set row quota sends numbers ok m
+
+pub set-decides : (row : List Drive) (quota : ℕ) (numbers : List ℕ) (a b : ℕ) (after other : List Drive) (filled more : List ℕ)
+    → Result row quota numbers a after filled → Result row quota numbers b other more
+    → ((i : ℕ) → i < length row → sentBy filled i ≡ sentBy more i)
+    → (a ≡ b) × (after ≡ other) × (filled ≡ more)
+set-decides row quota numbers a b after other filled more r t e = Turns.determined row quota numbers a b after other filled more r t e
+
+-- ── "its own share of the hall's calls" ──
+
+-- each call is on the row that the one before left
+pub no-calls-after : (row : List Drive) → hallAfter hallStep row [] ≡ row
+no-calls-after row = Shared.none-after row
+
+pub calls-after : (row : List Drive) (c : Call) (cs : List Call)
+    → hallAfter hallStep row (c ∷ cs) ≡ hallAfter hallStep (rowAfter hallStep row (turnsOf (length row) c)) cs
+calls-after row c cs = Shared.more-after row c cs
+
+pub share-of-none : (n i : ℕ) → share n i [] ≡ []
+share-of-none n i = Shared.no-calls n i
+
+module _ (n i : ℕ) (cs : List Call) where
+  -- "a hall call refused itself belongs to no share"
+  pub share-refused : (c : Call) (k : ℕ) → P.answerTo n c ≡ suc k → share n i (c ∷ cs) ≡ share n i cs
+  share-refused c k e = Shared.refused-share n i cs c k e
+
+  -- the bytes, where it is listed
+  pub share-named : (list s : List ℕ) (room : ℕ) → P.answerTo n (give list s room) ≡ 0 → P.Listed i list
+      → share n i (give list s room ∷ cs) ≡ bytes s ∷ share n i cs
+  share-named list s room ok l = Shared.named-share n i cs list s room ok l
+
+  pub share-not-named : (list s : List ℕ) (room : ℕ) → P.answerTo n (give list s room) ≡ 0 → (P.Listed i list → ⊥)
+      → share n i (give list s room ∷ cs) ≡ share n i cs
+  share-not-named list s room ok l = Shared.unnamed-share n i cs list s room ok l
+
+  -- a hall tick, sent or not
+  pub share-tick : (quota : ℕ) (sends : ℕ → Bool) (room : ℕ) → P.answerTo n (tick quota sends room) ≡ 0 → i < n
+      → share n i (tick quota sends room ∷ cs) ≡ hallTick (sends i) ∷ share n i cs
+  share-tick quota sends room ok h = Shared.tick-share n i cs quota sends room ok h
+
+-- as an event record a hall tick is a tick
+pub bytes-of-event : (s : List ℕ) → bytesIn (bytes s) ≡ s
+bytes-of-event s = refl
+
+pub bytes-of-tick : (sent : Bool) → bytesIn (hallTick sent) ≡ 0x5a ∷ 0xc3 ∷ 1 ∷ 0 ∷ 0 ∷ 0 ∷ []
+bytes-of-tick sent = refl
+
+-- ── W-203: the shift page ──
+
+-- "17 when the lent page is shorter than 29 bytes per drive, checked after 14"
+pub page-answers-with : (drives room : ℕ) → pageRefusal drives room ≡ firstThatFits (P.ofThePage drives room)
+page-answers-with drives room = Refused.same-page drives room
+
+-- "exactly 28 columns and a line feed"
+pub line-bytes : (number : ℕ) (d : Drive) → length (driveLine number d) ≡ 29
+line-bytes number d = line-length number d
+
+-- "number 2, position 3, percent 3, all to the right; ruling commander 8, to the left ..; status as 8 binary digits ..; one blank between
+-- fields": the 29 bytes one by one
+pub line : (number : ℕ) (d : Drive) → number < 100 → d .position < 256 → P1.WellFormed d → driveLine number d ≡ P.lineOf number d
+line number d h p f = Page.formed-line number d h p f
+
+-- "highest bit first": column 20 + k shows bit 7 - k, by the reasons that document 01 gives for it
+pub status-columns : (d : Drive) (number : ℕ) → number < 100 → d .position < 256 → P1.WellFormed d → (k : ℕ) → k < 8
+    → (let Shown = P1.Shown (d .commands) (d .run .kind) (P1.busActive (d .commands) (d .age) (d .params)) (7 - k) in
+    let column = getD (driveLine number d) (20 + k) 0 in
+    (Shown → column ≡ 49) × ((Shown → ⊥) → column ≡ 48))
+status-columns d number h p f k l = Page.status-columns d number h p f k l
+
+-- "A record that isn't well formed shows its number and minus signs filling the other fields."
+pub line-without : (number : ℕ) (d : Drive) → number < 100 → (P1.WellFormed d → ⊥) → driveLine number d ≡ P.lineWithout number
+line-without number d h f = Page.unformed-line number d h f
+
+module _ (row : List Drive) (page : List ℕ) where
+  pub page-bytes : length (pageAfter row page) ≡ length page
+  page-bytes = page-length row page
+
+  -- "nothing written"
+  pub page-refused : (k : ℕ) → firstThatFits (P.ofThePage (length row) (length page)) ≡ suc k → pageAfter row page ≡ page
+  page-refused k e = Page.refused-page row page k e
+
+  module _ (ok : firstThatFits (P.ofThePage (length row) (length page)) ≡ 0) where
+    -- "a line for each drive"
+    pub page-line : (i : ℕ) → i < length row → P.drive row i .position < 256 → P1.WellFormed (P.drive row i)
+        → take 29 (drop (29 * i) (pageAfter row page)) ≡ P.lineOf i (P.drive row i)
+    page-line i h p f = Page.page-formed row page ok i h p f
+
+    pub page-line-without : (i : ℕ) → i < length row → (P1.WellFormed (P.drive row i) → ⊥)
+        → take 29 (drop (29 * i) (pageAfter row page)) ≡ P.lineWithout i
+    page-line-without i h f = Page.page-unformed row page ok i h f
+
+    -- "Bytes after the last line keep their content."
+    pub page-behind : drop (29 * length row) (pageAfter row page) ≡ drop (29 * length row) page
+    page-behind = Page.page-behind row page ok
