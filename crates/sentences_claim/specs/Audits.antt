@@ -164,6 +164,10 @@ next-is n =
     (λ e. let h : n < 65535 = ltb-true _ _ e in rw e (omega arith))
     (λ e. let h : 65535 ≤ n = ltb-false _ _ e in rw e (omega arith))
 
+-- an equal flag says the same
+by : {b c : Bool} {X : Type 0} → b ≡ c → Says c X → Says b X
+by e k = (λ q. k .0 (sym e ∙ q), λ p. e ∙ k .1 p)
+
 -- two flags are found to differ
 differ : (c q : Bool) {X Y : Type 0} → Says q X → Says c Y → Says ((c && not q) || (not c && q)) ((X ↔ Y) → ⊥)
 differ true true e f = (λ z. absurd (false≢true z), λ n. absurd (n (λ x. f .0 refl, λ y. e .0 refl)))
@@ -221,79 +225,104 @@ module _ (a : Audit) (s : List ℕ) (y : Answer) (w : wellFormed (a .drive) ≡ 
   counted-is n k (S.one-more t) = rw (is-tick .1 t) (next-is n)
   counted-is n k (S.as-before t) = rw (unset tick is-tick .1 t)
 
+  findings-are : auditOf a s y .findings ≡ findingsOf a (metBy a s) x (wordOf y) (codeOf y)
+  unfolding auditOf
+  findings-are = rw w
+
+  audit-is : auditOf a s y .audit ≡ followed a (metBy a s) x
+  unfolding auditOf
+  audit-is = rw w
+
   pub spacing : (n : ℕ) → S.Counted d s (a .apart) n → Says (f .spacing) (P.IsReport y × (n < P.MinRepTime (o .drive .params)))
-  unfolding auditOf findingsOf
-  spacing n c = rw (w, counted-is (a .apart) n c) (both (x .reports) _ heard (below n _))
+  unfolding findingsOf metBy
+  spacing n c =
+      by (ap (λ (k : Findings). k .spacing) findings-are ∙ ap (λ (i : ℕ). x .reports && ltb i (minRepTime (o .drive .params))) (counted-is (a .apart) n c))
+      (both (x .reports) (ltb n (minRepTime (o .drive .params))) heard (below n (minRepTime (o .drive .params))))
 
   pub waiting : Says (f .waiting)
       (S.TickOf d s × (P.IsReport y → ⊥) × (P.MinRepTime (o .drive .params) ≤ P.oneMore (d .since))
       × S.New (o .drive .params) (o .drive .position) (statusOf (o .drive)) (d .last .reported) (d .last .position) (d .last .status))
-  unfolding auditOf findingsOf
+  unfolding findingsOf metBy
   waiting =
       let time = minRepTime (o .drive .params) in
+      let up = leb time (pick tick (next (d .since)) (d .since)) in
+      let new = differsFrom (o .drive) (statusOf (o .drive)) (d .last) in
       let n = new-flag (o .drive .params) (o .drive .position) (statusOf (o .drive)) (d .last .reported) (d .last .position) (d .last .status) in
-      let up : S.TickOf d s → Says (leb time (pick tick (next (d .since)) (d .since))) (time ≤ P.oneMore (d .since)) =
-          λ k. rw (counted-is (d .since) _ (S.one-more k)) (at-most time (P.oneMore (d .since))) in
-      let z = both (not (x .reports)) _ (negated (x .reports) heard) n in
-      let all = where-set tick _ is-tick (λ k. both (leb time (pick tick (next (d .since)) (d .since))) _ (up k) z) in
-      rw (w, regroup tick (not (x .reports))) (λ e. let p = all .0 e in (p .0, p .1 .1 .0, p .1 .0, p .1 .1 .1), λ p. all .1 (p .0, (p .2, (p .1, p .3))))
+      let in-time : S.TickOf d s → Says up (time ≤ P.oneMore (d .since)) =
+          λ k. by (ap (leb time) (counted-is (d .since) _ (S.one-more k))) (at-most time (P.oneMore (d .since))) in
+      let z = both (not (x .reports)) new (negated (x .reports) heard) n in
+      let all = where-set tick (up && (not (x .reports) && new)) is-tick (λ k. both up (not (x .reports) && new) (in-time k) z) in
+      by (ap (λ (k : Findings). k .waiting) findings-are ∙ regroup tick (not (x .reports)) up new)
+      (λ e. let p = all .0 e in (p .0, p .1 .1 .0, p .1 .0, p .1 .1 .1), λ p. all .1 (p .0, (p .2, (p .1, p .3))))
 
   pub moving : (t p : ℕ) → P.Target (d .commands) (d .run .kind) (a .seen) (d .params) (P.ruling d) t → S.Shows (a .seen) y p
       → Says (f .moving) (S.TickOf d s × (P.Moved (a .seen) t (P.Rate (d .params)) p → ⊥))
-  unfolding auditOf findingsOf metBy
+  unfolding findingsOf metBy
   moving t p aim sh =
+      let to = toward (a .seen) t (rate (d .params)) in
       let m = moved-is (a .seen) t (rate (d .params)) p in
-      rw (w, shows-said sh, tick-from d (a .seen) w t aim)
-      (both tick _ is-tick (negated (eqb p (toward (a .seen) t (rate (d .params)))) (λ e. m .0 (eqb-true _ _ e), λ h. eq-eqb _ _ (m .1 h))))
+      by (ap (λ (k : Findings). k .moving) findings-are
+      ∙ (λ i. tick && not (eqb (shows-said sh i) (tick-from d (a .seen) w t aim i))))
+      (both tick (not (eqb p to)) is-tick (negated (eqb p to) (λ e. m .0 (eqb-true p to e), λ h. eq-eqb p to (m .1 h))))
 
   pub position : (p : ℕ) → S.Shows (a .seen) y p → Says (f .position) (p ≡ o .drive .position → ⊥)
-  unfolding auditOf findingsOf metBy
-  position p sh = rw (w, shows-said sh) (negated (eqb p (o .drive .position)) (equal p (o .drive .position)))
+  unfolding findingsOf metBy
+  position p sh =
+      by (ap (λ (k : Findings). k .position) findings-are ∙ ap (λ (i : ℕ). not (eqb i (o .drive .position))) (shows-said sh))
+      (negated (eqb p (o .drive .position)) (equal p (o .drive .position)))
 
   pub content : Says (f .content) (P.IsReport y × (S.Gives y (o .drive .position) (statusOf (o .drive)) → ⊥))
-  unfolding auditOf findingsOf metBy
+  unfolding findingsOf metBy
   content =
       let p = o .drive .position in
       let v = statusOf (o .drive) in
-      let same : P.IsReport y → Says (eqb (x .position) p && eqb (x .status) v) (S.Gives y p v) =
-          λ r. (
-            λ e. let g = said-gives (a .seen) y r in
-            subst (λ k. S.Gives y k v) (eqb-true _ _ (and-left (eqb (x .position) p) _ e))
-            (subst (S.Gives y (x .position)) (eqb-true _ _ (and-right (eqb (x .position) p) _ e)) g),
-            λ g. let z = gives-said (a .seen) g in and-intro (eq-eqb _ _ (z .0)) (eq-eqb _ _ (z .1)),
-          ) in
-      rw w (where-set (x .reports) _ heard (λ r. negated (eqb (x .position) p && eqb (x .status) v) (same r)))
+      let there : P.IsReport y → eqb (x .position) p && eqb (x .status) v ≡ true → S.Gives y p v =
+          λ r e.
+          subst (λ (k : ℕ). S.Gives y k v) (eqb-true (x .position) p (and-left (eqb (x .position) p) _ e))
+          (subst (S.Gives y (x .position)) (eqb-true (x .status) v (and-right (eqb (x .position) p) _ e)) (said-gives (a .seen) y r)) in
+      let back : S.Gives y p v → eqb (x .position) p && eqb (x .status) v ≡ true =
+          λ g. let z = gives-said (a .seen) g in and-intro (eq-eqb (x .position) p (z .0)) (eq-eqb (x .status) v (z .1)) in
+      let same = eqb (x .position) p && eqb (x .status) v in
+      by (ap (λ (k : Findings). k .content) findings-are)
+      (where-set (x .reports) (not same) heard (λ r. negated same (there r, back)))
 
   pub othermove : (p : ℕ) → S.Shows (a .seen) y p → Says (f .othermove) ((S.TickOf d s → ⊥) × (p ≡ a .seen → ⊥))
-  unfolding auditOf findingsOf
+  unfolding findingsOf
   othermove p sh =
-      rw (w, shows-said sh) (both (not tick) (not (eqb p (a .seen))) (negated tick is-tick) (negated (eqb p (a .seen)) (equal p (a .seen))))
+      by (ap (λ (k : Findings). k .othermove) findings-are ∙ ap (λ (i : ℕ). not tick && not (eqb i (a .seen))) (shows-said sh))
+      (both (not tick) (not (eqb p (a .seen))) (negated tick is-tick) (negated (eqb p (a .seen)) (equal p (a .seen))))
 
   pub otherreport : Says (f .otherreport) ((S.TickOf d s → ⊥) × P.IsReport y)
-  unfolding auditOf findingsOf
-  otherreport = rw w (both (not tick) (x .reports) (negated tick is-tick) heard)
+  unfolding findingsOf
+  otherreport = by (ap (λ (k : Findings). k .otherreport) findings-are) (both (not tick) (x .reports) (negated tick is-tick) heard)
 
   pub due-found : Says (f .due) (S.TickOf d s × ((P.IsReport y ↔ S.TickDue d) → ⊥))
-  unfolding auditOf findingsOf metBy
-  due-found = rw w (where-set tick _ is-tick (λ k. differ (saidIn 0 (o .answer) .reports) (x .reports) heard (tick-due d s w k)))
+  unfolding findingsOf metBy
+  due-found =
+      let own = saidIn 0 (o .answer) .reports in
+      by (ap (λ (k : Findings). k .due) findings-are)
+      (where-set tick ((own && not (x .reports)) || (not own && x .reports)) is-tick (λ k. differ own (x .reports) heard (tick-due d s w k)))
 
   pub refusal : Says (f .refusal) (S.Number y (firstThatFits (P.turnedDown d s)) → ⊥)
-  unfolding auditOf findingsOf metBy
+  unfolding findingsOf metBy
   refusal =
-      let n = same-number y (firstThatFits (P.turnedDown d s)) in
-      rw (w, own-number d s w, said-number (a .seen) y)
-      (negated (eqb (numberOf y) (firstThatFits (P.turnedDown d s))) (λ e. n .0 (eqb-true _ _ e), λ k. eq-eqb _ _ (n .1 k)))
+      let k = firstThatFits (P.turnedDown d s) in
+      let n = same-number y k in
+      by (ap (λ (z : Findings). z .refusal) findings-are ∙ (λ i. not (eqb (said-number (a .seen) y i) (own-number d s w i))))
+      (negated (eqb (numberOf y) k) (λ e. n .0 (eqb-true (numberOf y) k e), λ h. eq-eqb (numberOf y) k (n .1 h)))
 
   pub answer : Fits y → Fits (o .answer) → Says (f .answer) (y ≡ o .answer → ⊥)
-  unfolding auditOf findingsOf metBy
+  unfolding findingsOf metBy
   answer h k =
-      rw w
-      (negated (eqb (wordOf y) (wordOf (o .answer)) && eqb (codeOf y) (codeOf (o .answer)))
-      (λ e. same (eqb-true _ _ (and-left (eqb (wordOf y) (wordOf (o .answer))) _ e)) (eqb-true _ _ (and-right (eqb (wordOf y) (wordOf (o .answer))) _ e)),
+      let words = eqb (wordOf y) (wordOf (o .answer)) in
+      let codes = eqb (codeOf y) (codeOf (o .answer)) in
+      by (ap (λ (z : Findings). z .answer) findings-are)
+      (negated (words && codes)
+      (λ e. same (eqb-true _ _ (and-left words codes e)) (eqb-true _ _ (and-right words codes e)),
       λ e. and-intro (eq-eqb _ _ (ap wordOf e)) (eq-eqb _ _ (ap codeOf e))))
     where
       same : wordOf y ≡ wordOf (o .answer) → codeOf y ≡ codeOf (o .answer) → y ≡ o .answer
-      same u v = sym (answer-again y h) ∙ rw (u, v) (answer-again (o .answer) k)
+      same u v = sym (answer-again y h) ∙ (λ i. answerOf (u i) (v i)) ∙ answer-again (o .answer) k
 
   -- ── What is kept ──
 
@@ -305,46 +334,54 @@ module _ (a : Audit) (s : List ℕ) (y : Answer) (w : wellFormed (a .drive) ≡ 
   pub kept : after .drive
       ≡ o .drive with (Fields.since ≔ after .drive .since ∷ Fields.reported ≔ after .drive .last .reported
       ∷ Fields.lastPosition ≔ after .drive .last .position ∷ Fields.lastStatus ≔ after .drive .last .status ∷ [])
-  unfolding auditOf followed metBy
-  kept = rw w
+  unfolding followed metBy
+  kept = heard-kept (auditOf a s y .audit) audit-is
+    where
+      heard-kept : (b : Audit) → b ≡ followed a (metBy a s) x → b .drive
+          ≡ o .drive with (Fields.since ≔ b .drive .since ∷ Fields.reported ≔ b .drive .last .reported
+          ∷ Fields.lastPosition ≔ b .drive .last .position ∷ Fields.lastStatus ≔ b .drive .last .status ∷ [])
+      heard-kept b e = rw e
 
   pub seen : (p : ℕ) → S.Shows (a .seen) y p → after .seen ≡ p
-  unfolding auditOf followed
-  seen p sh = rw w (shows-said sh)
+  unfolding followed
+  seen p sh = ap (λ (k : Audit). k .seen) audit-is ∙ shows-said sh
 
   pub apart-report : P.IsReport y → after .apart ≡ 0
-  unfolding auditOf followed
-  apart-report r = rw (w, heard .1 r)
+  unfolding followed
+  apart-report r = ap (λ (k : Audit). k .apart) audit-is ∙ rw (heard .1 r)
 
   pub apart-else : (n : ℕ) → (P.IsReport y → ⊥) → S.Counted d s (a .apart) n → after .apart ≡ n
-  unfolding auditOf followed
-  apart-else n r c = rw (w, unset (x .reports) heard .1 r) (counted-is (a .apart) n c)
+  unfolding followed
+  apart-else n r c = ap (λ (k : Audit). k .apart) audit-is ∙ rw (unset (x .reports) heard .1 r) (counted-is (a .apart) n c)
 
   pub since-report : P.IsReport y → after .drive .since ≡ 0
-  unfolding auditOf followed
-  since-report r = rw (w, heard .1 r)
+  unfolding followed
+  since-report r = ap (λ (k : Audit). k .drive .since) audit-is ∙ rw (heard .1 r)
 
   pub since-restart : S.RestartOf d s → after .drive .since ≡ 0
-  unfolding auditOf followed
-  since-restart r = rw (w, is-restart .1 r, or-true)
+  unfolding followed
+  since-restart r = ap (λ (k : Audit). k .drive .since) audit-is ∙ rw (is-restart .1 r, or-true (x .reports))
 
   pub since-else : (n : ℕ) → (P.IsReport y → ⊥) → (S.RestartOf d s → ⊥) → S.Counted d s (d .since) n → after .drive .since ≡ n
-  unfolding auditOf followed
-  since-else n r z c = rw (w, unset (x .reports) heard .1 r, unset restart is-restart .1 z) (counted-is (d .since) n c)
+  unfolding followed
+  since-else n r z c =
+      ap (λ (k : Audit). k .drive .since) audit-is
+      ∙ rw (unset (x .reports) heard .1 r, unset restart is-restart .1 z) (counted-is (d .since) n c)
 
   pub last-restart : S.RestartOf d s → after .drive .last ≡ last 0 0 0
-  unfolding auditOf followed
-  last-restart r = rw (w, is-restart .1 r)
+  unfolding followed
+  last-restart r = ap (λ (k : Audit). k .drive .last) audit-is ∙ rw (is-restart .1 r)
 
   pub last-report : (p v : ℕ) → (S.RestartOf d s → ⊥) → S.Gives y p v → after .drive .last ≡ last 1 p v
-  unfolding auditOf followed
+  unfolding followed
   last-report p v z g =
       let e = gives-said (a .seen) g in
-      rw (w, unset restart is-restart .1 z, same-reports (a .seen) y .1 (same-report y .0 (gives-report g))) (rw (e .0, e .1))
+      ap (λ (k : Audit). k .drive .last) audit-is
+      ∙ rw (unset restart is-restart .1 z, heard .1 (same-report y .0 (gives-report g))) (λ i. last 1 (e .0 i) (e .1 i))
 
   pub last-else : (S.RestartOf d s → ⊥) → (P.IsReport y → ⊥) → after .drive .last ≡ d .last
-  unfolding auditOf followed
-  last-else z r = rw (w, unset restart is-restart .1 z, unset (x .reports) heard .1 r)
+  unfolding followed
+  last-else z r = ap (λ (k : Audit). k .drive .last) audit-is ∙ rw (unset restart is-restart .1 z, unset (x .reports) heard .1 r)
 
 -- an audit whose drive is not well formed
 pub refused : (a : Audit) (s : List ℕ) (y : Answer) → wellFormed (a .drive) ≡ false

@@ -220,10 +220,8 @@ module _ (m : C.Moment) (t : C.Trace) where
   pub due-at : (n r p s : ℕ) → S.Since t n → S.Last t r p s → Says (C.dueIn m t) (S.DueAt m t n r p s)
   due-at n r p s since last = rw (since-only since) (go last (last-only last))
     where
-      abbrev flag : Bool
-      flag = reportDue (C.inForce m t) (n + 1) (R.positionIn now) (R.statusIn now) (C.lastReport t)
-
-      go : {r p s : ℕ} → S.Last t r p s → C.lastReport t ≡ sentOf r p s → Says flag (S.DueAt m t n r p s)
+      go : {r p s : ℕ} → S.Last t r p s → C.lastReport t ≡ sentOf r p s
+          → Says (reportDue (C.inForce m t) (n + 1) (R.positionIn now) (R.statusIn now) (C.lastReport t)) (S.DueAt m t n r p s)
       go (S.reported {p} {s} a x o b c d f) e = rw e (same-due-sent (C.inForce m t) (n + 1) (R.positionIn now) (R.statusIn now) p s)
       go (S.none-since-restart a x o b c d) e = rw e (same-due-silent (C.inForce m t) (n + 1) (R.positionIn now) (R.statusIn now))
       go (S.none-at-all w) e = rw e (same-due-silent (C.inForce m t) (n + 1) (R.positionIn now) (R.statusIn now))

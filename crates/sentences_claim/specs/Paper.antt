@@ -11,7 +11,6 @@ use Rattle.event.specs.declared.Event.{Event}
 use Rattle.answer.specs.declared.Answer.{Answer}
 use Rattle.answer.specs.declared.Answer.the-variants.{No, Done, Par, At, Tick, Report}
 use Rattle.damper.specs.declared.Drive.{Drive}
-use Rattle.damper.specs.Record.{freshDrive}
 use Rattle.damper.specs.Tick.{advance, statusOf}
 use Rattle.damper.specs.Carry.{Step}
 use Rattle.history.specs.Readings.{judgement, parameters, targetFrom, positionIn, statusIn}
@@ -19,7 +18,7 @@ use Rattle.history.specs.Log.{Entry}
 use Rattle.history.specs.Claim.{Moment, Trace, accepted}
 use Rattle.audit.specs.declared.Audit.{Audit}
 use Rattle.audit.specs.declared.Findings.{Findings}
-use Rattle.audit.specs.Audit.{freshAudit, auditOf}
+use Rattle.audit.specs.Audit.{auditOf}
 use Rattle.recording.specs.Recording.{Heard}
 use Rattle.sentences.specs.Words.{_is_, choose, firstThatFits}
 use Rattle.sentences.specs.Paper as P
@@ -194,11 +193,11 @@ abbrev pub moment : List ℕ → Answer → ℕ → Moment
 moment s a p = record { bytes = s; answer = a; position = p }
 
 -- "The first event record goes to a fresh drive, each later one to the drive that the one before left, refused or not, and nobody else
--- writes it in between.": the records given, the drive that they left, and the trace
-pub data Given (step : Step) : List (List ℕ) → Drive → Trace → Type 0 where
-  fresh : Given step [] freshDrive []
-  next : {l : List (List ℕ)} {d : Drive} {t : Trace} → Given step l d t → (s : List ℕ)
-      → Given step (l ++ (s ∷ [])) (step d s .drive) (moment s (step d s .answer) (step d s .drive .position) ∷ t)
+-- writes it in between.": the records given to the drive `first`, the drive that they left, and the trace
+pub data Given (step : Step) (first : Drive) : List (List ℕ) → Drive → Trace → Type 0 where
+  nothing : Given step first [] first []
+  next : {l : List (List ℕ)} {d : Drive} {t : Trace} → Given step first l d t → (s : List ℕ)
+      → Given step first (l ++ (s ∷ [])) (step d s .drive) (moment s (step d s .answer) (step d s .drive .position) ∷ t)
 
 -- the reports of a trace in order, each with the number of its record, from 1
 pub data Logged : Trace → List Entry → Type 0 where
@@ -255,11 +254,11 @@ nothingFound =
 abbrev pub heard : List ℕ → Answer → Heard
 heard s y = record { bytes = s; answer = y }
 
--- an audit that was fresh at first, carried over a recording, and the trace of the recording: each position as the answers show it
-pub data Recorded : List Heard → Audit → Trace → Type 0 where
-  fresh : Recorded [] freshAudit []
-  next : {l : List Heard} {a : Audit} {t : Trace} → Recorded l a t → (s : List ℕ) (y : Answer) (p : ℕ) → Shows (positionAfter t) y p
-      → Recorded (l ++ (heard s y ∷ [])) (auditOf a s y .audit) (moment s y p ∷ t)
+-- the audit `first` carried over a recording, and the trace of the recording, each position as the answers show it
+pub data Recorded (first : Audit) : List Heard → Audit → Trace → Type 0 where
+  nothing : Recorded first [] first []
+  next : {l : List Heard} {a : Audit} {t : Trace} → Recorded first l a t → (s : List ℕ) (y : Answer) (p : ℕ) → Shows (positionAfter t) y p
+      → Recorded first (l ++ (heard s y ∷ [])) (auditOf a s y .audit) (moment s y p ∷ t)
 
 -- a finding of a sentence: it is true where the sentence fails, and only there; it is false where the sentence holds, and only there
 pub record Found (b : Bool) (Sentence : Type 0) : Type 0 where

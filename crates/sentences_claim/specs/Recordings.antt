@@ -42,7 +42,7 @@ moment-is t s y p h =
 
 -- ── Carried over a recording ──
 
-pub recorded-on : (l : List Heard) {k : List Heard} {a : Audit} {t : C.Trace} → S.Recorded k a t → S.Recorded (k ++ l) (auditAfter a l) (traceFrom t l)
+pub recorded-on : (l : List Heard) {k : List Heard} {a : Audit} {t : C.Trace} → S.Recorded freshAudit k a t → S.Recorded freshAudit (k ++ l) (auditAfter a l) (traceFrom t l)
 unfolding auditAfter traceFrom
 recorded-on [] {k} g = rw append-nil g
 recorded-on (x ∷ l) {k} {a} {t} g =
@@ -59,17 +59,17 @@ unfolding traceFrom
 trace-snoc [] x t = refl
 trace-snoc (z ∷ l) x t = trace-snoc l x (heardAs t z ∷ t)
 
-pub recorded-only : {l : List Heard} {a : Audit} {t : C.Trace} → S.Recorded l a t → (a ≡ auditAfter freshAudit l) × (t ≡ traceHeard l)
+pub recorded-only : {l : List Heard} {a : Audit} {t : C.Trace} → S.Recorded freshAudit l a t → (a ≡ auditAfter freshAudit l) × (t ≡ traceHeard l)
 unfolding auditAfter traceFrom
-recorded-only S.fresh = (refl, refl)
+recorded-only S.nothing = (refl, refl)
 recorded-only (S.next {l} {a} {t} g s y p h) =
     let e = recorded-only g in
     (ap (λ (z : Audit). auditOf z s y .audit) (e .0) ∙ sym (audit-snoc l (S.heard s y) freshAudit),
     sym (ap (λ m. m ∷ t) (moment-is t s y p h)) ∙ ap (λ u. heardAs u (S.heard s y) ∷ u) (e .1) ∙ sym (trace-snoc l (S.heard s y) []))
 
-pub carried : (l : List Heard) (a : Audit) (t : C.Trace) → ((auditAfter freshAudit l ≡ a) × (traceHeard l ≡ t)) ↔ S.Recorded l a t
+pub carried : (l : List Heard) (a : Audit) (t : C.Trace) → ((auditAfter freshAudit l ≡ a) × (traceHeard l ≡ t)) ↔ S.Recorded freshAudit l a t
 carried l a t = (
-  λ e. rw (← (e .0), ← (e .1)) (recorded-on l S.fresh),
+  λ e. rw (← (e .0), ← (e .1)) (recorded-on l S.nothing),
   λ g. let e = recorded-only g in (sym (e .0), sym (e .1)),
 )
 
@@ -81,8 +81,8 @@ findings-snoc (z ∷ l) x a = rw (findings-snoc l x (auditOf a (z .bytes) (z .an
 
 -- ── What is found ──
 
-follows : {l : List Heard} {a : Audit} {t : C.Trace} → S.Recorded l a t → Follows a t
-follows S.fresh = fresh-follows
+follows : {l : List Heard} {a : Audit} {t : C.Trace} → S.Recorded freshAudit l a t → Follows a t
+follows S.nothing = fresh-follows
 follows (S.next {l} {a} {t} g s y p h) = rw (← moment-is t s y p h) (follows-next a t (follows g) (S.heard s y))
 
 found : (b : Bool) {X Y : Type 0} → Tells b X → X ↔ Y → S.Found b Y
@@ -105,6 +105,6 @@ told-found m t f k =
       refusal = found (f .refusal) (k .refusal) (Holds.same-refusal m t);
     }
 
-pub finds : {l : List Heard} {a : Audit} {t : C.Trace} → S.Recorded l a t → (s : List ℕ) (y : Answer) (p : ℕ) → S.Shows (S.positionAfter t) y p
+pub finds : {l : List Heard} {a : Audit} {t : C.Trace} → S.Recorded freshAudit l a t → (s : List ℕ) (y : Answer) (p : ℕ) → S.Shows (S.positionAfter t) y p
     → S.Finds (S.moment s y p) t (auditOf a s y .findings)
 finds {l} {a} {t} g s y p h = rw (← moment-is t s y p h) (told-found _ t _ (told-next a t (follows g) (S.heard s y)))

@@ -164,22 +164,23 @@ hall-claim t = Traces.same-hall-claim t
 
 -- "The first event record goes to a fresh drive, each later one to the drive that the one before left, refused or not, and nobody else
 -- writes it in between."
-pub trace-of : (step : Step) (l : List (List ℕ)) (t : C.Trace) → (C.traceOf step l ≡ t) ↔ ((d : Drive) × S.Given step l d t)
-trace-of step l t = Traces.same-given step l t
+pub trace-of : (step : Step) (l : List (List ℕ)) (t : C.Trace) → (C.traceOf step l ≡ t) ↔ ((d : Drive) × S.Given step freshDrive l d t)
+trace-of step l t = Traces.given-trace step freshDrive l t
 
-pub drive-after : (step : Step) (l : List (List ℕ)) (d : Drive) (t : C.Trace) → S.Given step l d t → d ≡ driveAfter freshDrive (outcomes step freshDrive l)
-drive-after step l d t g = Traces.given-drive step l d t g
+pub drive-after : (step : Step) (l : List (List ℕ)) (d : Drive) (t : C.Trace) → S.Given step freshDrive l d t
+    → driveAfter freshDrive (outcomes step freshDrive l) ≡ d
+drive-after step l d t g = Traces.given-drive step freshDrive l d t g
 
 -- the reports in order, each with the number of its record
 pub log-of : (step : Step) (l : List (List ℕ)) (es : List Log.Entry) → (C.logOf step l ≡ es) ↔ S.Logged (C.traceOf step l) es
 log-of step l es = Traces.same-log step l es
 
 -- Demand 3 in this form, of the proved drive: "For every list of event records .. all of this holds."
-pub demand-3 : (l : List (List ℕ)) (d : Drive) (t : C.Trace) → S.Given stepOf l d t → S.Everywhere S.Holds t
+pub demand-3 : (l : List (List ℕ)) (d : Drive) (t : C.Trace) → S.Given stepOf freshDrive l d t → S.Everywhere S.Holds t
 demand-3 l d t g = Traces.all-hold l d t g
 
 -- and its log, read off the list alone
-pub log-in : (l : List (List ℕ)) (d : Drive) (t : C.Trace) → S.Given stepOf l d t → S.Logged t (Log.logIn l)
+pub log-in : (l : List (List ℕ)) (d : Drive) (t : C.Trace) → S.Given stepOf freshDrive l d t → S.Logged t (Log.logIn l)
 log-in l d t g = Traces.log-holds l d t g
 
 -- ── The audit: what is found at a record ──
@@ -310,7 +311,7 @@ audit-fresh = Audits.fresh
 -- ── The audit of a recording ──
 
 -- the audit and the trace, record by record
-pub carried : (l : List Heard) (a : Audit) (t : C.Trace) → ((auditAfter freshAudit l ≡ a) × (traceHeard l ≡ t)) ↔ S.Recorded l a t
+pub carried : (l : List Heard) (a : Audit) (t : C.Trace) → ((auditAfter freshAudit l ≡ a) × (traceHeard l ≡ t)) ↔ S.Recorded freshAudit l a t
 carried l a t = Recordings.carried l a t
 
 pub findings : (l : List Heard) (x : Heard)
@@ -318,6 +319,6 @@ pub findings : (l : List Heard) (x : Heard)
 findings l x = Recordings.findings-snoc l x freshAudit
 
 -- For every recording of any drive, each finding is true where its sentence fails, and only there.
-pub finds : (l : List Heard) (a : Audit) (t : C.Trace) → S.Recorded l a t → (s : List ℕ) (y : Answer) (p : ℕ) → S.Shows (S.positionAfter t) y p
+pub finds : (l : List Heard) (a : Audit) (t : C.Trace) → S.Recorded freshAudit l a t → (s : List ℕ) (y : Answer) (p : ℕ) → S.Shows (S.positionAfter t) y p
     → S.Finds (S.moment s y p) t (auditOf a s y .findings)
 finds l a t g s y p h = Recordings.finds g s y p h

@@ -65,9 +65,9 @@ same-hall-claim t = (there t, back t)
 
 -- ── The trace of a drive ──
 
-module _ (step : Step) where
-  given-on : (l : List (List ℕ)) {k : List (List ℕ)} {d : Drive} {t : C.Trace} → S.Given step k d t
-      → S.Given step (k ++ l) (driveAfter d (outcomes step d l)) (C.traceOn t l (outcomes step d l))
+module _ (step : Step) (first : Drive) where
+  given-on : (l : List (List ℕ)) {k : List (List ℕ)} {d : Drive} {t : C.Trace} → S.Given step first k d t
+      → S.Given step first (k ++ l) (driveAfter d (outcomes step d l)) (C.traceOn t l (outcomes step d l))
   unfolding outcomes driveAfter C.traceOn
   given-on [] {k} g = rw append-nil g
   given-on (s ∷ l) {k} g = rw (← append-snoc k s l) (given-on l (S.next g s))
@@ -85,21 +85,22 @@ module _ (step : Step) where
   drive-snoc [] s d = refl
   drive-snoc (x ∷ l) s d = drive-snoc l s (step d x .drive)
 
-  given-only : {l : List (List ℕ)} {d : Drive} {t : C.Trace} → S.Given step l d t
-      → (d ≡ driveAfter freshDrive (outcomes step freshDrive l)) × (t ≡ C.traceOf step l)
+  given-only : {l : List (List ℕ)} {d : Drive} {t : C.Trace} → S.Given step first l d t
+      → (d ≡ driveAfter first (outcomes step first l)) × (t ≡ C.traceOn [] l (outcomes step first l))
   unfolding outcomes driveAfter C.traceOn
-  given-only S.fresh = (refl, refl)
+  given-only S.nothing = (refl, refl)
   given-only (S.next {l = l} g s) =
       let e = given-only g in
-      (rw (e .0) (sym (drive-snoc l s freshDrive)), rw (e .0, e .1) (sym (trace-snoc l s freshDrive [])))
+      (ap (λ (x : Drive). step x s .drive) (e .0) ∙ sym (drive-snoc l s first),
+      (λ i. momentOf s (step (e .0 i) s) ∷ e .1 i) ∙ sym (trace-snoc l s first []))
 
-  pub same-given : (l : List (List ℕ)) (t : C.Trace) → (C.traceOf step l ≡ t) ↔ ((d : Drive) × S.Given step l d t)
-  same-given l t = (λ e. (_, subst (S.Given step l _) e (given-on l S.fresh)), λ g. sym (given-only (g .1) .1))
+  pub given-trace : (l : List (List ℕ)) (t : C.Trace) → (C.traceOn [] l (outcomes step first l) ≡ t) ↔ ((d : Drive) × S.Given step first l d t)
+  given-trace l t = (λ e. (_, subst (S.Given step first l _) e (given-on l S.nothing)), λ g. sym (given-only (g .1) .1))
 
-  pub given-drive : (l : List (List ℕ)) (d : Drive) (t : C.Trace) → S.Given step l d t → d ≡ driveAfter freshDrive (outcomes step freshDrive l)
-  given-drive l d t g = given-only g .0
+  pub given-drive : (l : List (List ℕ)) (d : Drive) (t : C.Trace) → S.Given step first l d t → driveAfter first (outcomes step first l) ≡ d
+  given-drive l d t g = sym (given-only g .0)
 
--- ── The log ──
+  -- ── The log ──
 
   logged-on : (l : List (List ℕ)) (d : Drive) (t : C.Trace) (es : List Entry) → S.Logged t es
       → S.Logged (C.traceOn t l (outcomes step d l)) (es ++ C.reportsFrom (length t) (outcomes step d l))
@@ -112,11 +113,11 @@ module _ (step : Step) where
       (λ q.
       let r = report-gives (m .answer) q in
       let e = entry (length t + 1) (r .0) (r .1) in
-      rw (r .3, ← append-snoc es e (C.reportsFrom (length t + 1) (outcomes step (o .drive) l)), add-one (length t))
-      (logged-on l (o .drive) (m ∷ t) (es ++ (e ∷ [])) (S.report m g (r .2))))
+      rw (r .3, ← append-snoc es e (C.reportsFrom (length t + 1) (outcomes step (o .drive) l)))
+      (rw (← add-one (length t)) at (logged-on l (o .drive) (m ∷ t) (es ++ (e ∷ [])) (S.report m g (r .2)))))
       (λ q.
-      rw (silent-in (m .answer) q, add-one (length t))
-      (logged-on l (o .drive) (m ∷ t) es (S.silent m g (unset _ (reports m) .0 q))))
+      rw (silent-in (m .answer) q)
+      (rw (← add-one (length t)) at (logged-on l (o .drive) (m ∷ t) es (S.silent m g (unset _ (reports m) .0 q)))))
 
 -- the log of a trace
 logAt : C.Trace → List Entry
@@ -131,14 +132,14 @@ logged-only (S.silent m g n) = rw (logged-only g, silent-in (m .answer) (unset _
 
 pub same-log : (step : Step) (l : List (List ℕ)) (es : List Entry) → (C.logOf step l ≡ es) ↔ S.Logged (C.traceOf step l) es
 same-log step l es = (
-  λ e. subst (S.Logged (C.traceOf step l)) e (logged-on step l freshDrive [] [] S.nothing),
-  λ g. sym (logged-only (logged-on step l freshDrive [] [] S.nothing)) ∙ logged-only g,
+  λ e. subst (S.Logged (C.traceOf step l)) e (logged-on step freshDrive l freshDrive [] [] S.nothing),
+  λ g. sym (logged-only (logged-on step freshDrive l freshDrive [] [] S.nothing)) ∙ logged-only g,
 )
 
 -- ── The proved drive ──
 
-pub all-hold : (l : List (List ℕ)) (d : Drive) (t : C.Trace) → S.Given stepOf l d t → S.Everywhere S.Holds t
-all-hold l d t g = rw (same-given stepOf l t .1 (d, g)) at (same-claim (C.traceOf stepOf l) .0 (demand-3 l))
+pub all-hold : (l : List (List ℕ)) (d : Drive) (t : C.Trace) → S.Given stepOf freshDrive l d t → S.Everywhere S.Holds t
+all-hold l d t g = rw (given-trace stepOf freshDrive l t .1 (d, g)) at (same-claim (C.traceOf stepOf l) .0 (demand-3 l))
 
-pub log-holds : (l : List (List ℕ)) (d : Drive) (t : C.Trace) → S.Given stepOf l d t → S.Logged t (logIn l)
-log-holds l d t g = rw (same-given stepOf l t .1 (d, g)) at (same-log stepOf l (logIn l) .0 (log-read l))
+pub log-holds : (l : List (List ℕ)) (d : Drive) (t : C.Trace) → S.Given stepOf freshDrive l d t → S.Logged t (logIn l)
+log-holds l d t g = rw (given-trace stepOf freshDrive l t .1 (d, g)) at (same-log stepOf l (logIn l) .0 (log-read l))
