@@ -41,7 +41,7 @@ ticks-clock (m ∷ new) old = one-more (C.acceptedAs R.isTick m (new ++ old)) _ 
 -- ── Without restart and report ──
 
 module _ {A : Type 0} where
-  nil-split : (l : List A) (x : A) (k : List A) → [] ≡ l ++ (x ∷ k) → ⊥
+  pub nil-split : (l : List A) (x : A) (k : List A) → [] ≡ l ++ (x ∷ k) → ⊥
   nil-split [] x k e = nil≢cons e
   nil-split (y ∷ l) x k e = nil≢cons e
 

@@ -11,6 +11,7 @@ use Rattle.event.specs.declared.Event.{Event}
 use Rattle.answer.specs.declared.Answer.{Answer}
 use Rattle.answer.specs.declared.Answer.the-variants.{No, Done, Par, At, Tick, Report}
 use Rattle.damper.specs.declared.Drive.{Drive}
+use Rattle.damper.specs.declared.Outcome.{Outcome}
 use Rattle.damper.specs.Tick.{advance, statusOf}
 use Rattle.damper.specs.Carry.{Step}
 use Rattle.history.specs.Readings.{judgement, parameters, targetFrom, positionIn, statusIn}
@@ -18,7 +19,7 @@ use Rattle.history.specs.Log.{Entry}
 use Rattle.history.specs.Claim.{Moment, Trace, accepted}
 use Rattle.audit.specs.declared.Audit.{Audit}
 use Rattle.audit.specs.declared.Findings.{Findings}
-use Rattle.audit.specs.Audit.{auditOf}
+use Rattle.audit.specs.Audit.{freshAudit, auditOf}
 use Rattle.recording.specs.Recording.{Heard}
 use Rattle.sentences.specs.Words.{_is_, choose, firstThatFits}
 use Rattle.sentences.specs.Paper as P
@@ -199,6 +200,12 @@ pub data Given (step : Step) (first : Drive) : List (List ℕ) → Drive → Tra
   next : {l : List (List ℕ)} {d : Drive} {t : Trace} → Given step first l d t → (s : List ℕ)
       → Given step first (l ++ (s ∷ [])) (step d s .drive) (moment s (step d s .answer) (step d s .drive .position) ∷ t)
 
+-- the trace of records and of what each of them gave, after the trace `first`
+pub data Traced (first : Trace) : List (List ℕ) → List Outcome → Trace → Type 0 where
+  nothing : Traced first [] [] first
+  next : {l : List (List ℕ)} {os : List Outcome} {t : Trace} → Traced first l os t → (s : List ℕ) (o : Outcome)
+      → Traced first (l ++ (s ∷ [])) (os ++ (o ∷ [])) (moment s (o .answer) (o .drive .position) ∷ t)
+
 -- the reports of a trace in order, each with the number of its record, from 1
 pub data Logged : Trace → List Entry → Type 0 where
   nothing : Logged [] []
@@ -254,6 +261,11 @@ nothingFound =
 abbrev pub heard : List ℕ → Answer → Heard
 heard s y = record { bytes = s; answer = y }
 
+-- the recording of a trace: what is told of it, the first record first
+abbrev pub recording : Trace → List Heard
+recording [] = []
+recording (m ∷ t) = recording t ++ (heard (m .bytes) (m .answer) ∷ [])
+
 -- the audit `first` carried over a recording, and the trace of the recording, each position as the answers show it
 pub data Recorded (first : Audit) : List Heard → Audit → Trace → Type 0 where
   nothing : Recorded first [] first []
@@ -275,3 +287,11 @@ pub record Finds (m : Moment) (t : Trace) (f : Findings) : Type 0 where
   pub otherreport : Found (f .otherreport) (OtherReport m t)
   pub due : Found (f .due) (Due m t)
   pub refusal : Found (f .refusal) (Refusal m t)
+
+-- as many findings as records, and each about its own: `f` is found at the record that was answered by `y`
+pub record FindsAll (l : List Heard) (fs : List Findings) : Type 0 where
+  pub as-many : length fs ≡ length l
+  pub each : (front : List Heard) (x : Heard) (rest : List Heard) (before : List Findings) (f : Findings) (behind : List Findings)
+      → l ≡ front ++ (x ∷ rest) → fs ≡ before ++ (f ∷ behind) → length before ≡ length front
+      → (a : Audit) (t : Trace) (p : ℕ) → Recorded freshAudit front a t → Shows (positionAfter t) (x .answer) p
+      → Finds (moment (x .bytes) (x .answer) p) t f

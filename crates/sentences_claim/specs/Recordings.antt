@@ -3,7 +3,9 @@ use mathlib.Core.Path.{_≡_, refl, sym, ap, _∙_}
 use mathlib.Core.Logic.{_↔_}
 use mathlib.Core.Bool.{Bool, true, false, false≢true}
 use mathlib.Core.List.{List, [], _∷_, _++_, append-nil}
-use Prim.Native.Nat.{ℕ}
+use Prim.Native.Nat.{ℕ, suc}
+use native.Mathlib.Omega.{arith}
+use lib.ListN.{length}
 use lib.Seq.{append-snoc}
 use Rattle.answer.specs.declared.Answer.{Answer}
 use Rattle.answer.specs.declared.Answer.the-variants.{No, Done, Par, At, Tick, Report}
@@ -11,11 +13,12 @@ use Rattle.history.specs.Claim as C
 use Rattle.audit.specs.declared.Audit.{Audit}
 use Rattle.audit.specs.declared.Findings.{Findings}
 use Rattle.audit.specs.Audit.{freshAudit, auditOf}
-use Rattle.recording.specs.Recording.{Heard, shownIn, heardAs, traceFrom, traceHeard, Tells, Told, findingsFrom, auditAfter}
+use Rattle.recording.specs.Recording.{Heard, shownIn, heardAs, traceFrom, traceHeard, Tells, Told, ToldFrom, findingsFrom, auditAfter}
 use Rattle.recording.specs.Follows.{Follows, fresh-follows}
 use Rattle.recording.specs.Theorem.{told-next, follows-next}
 use Rattle.sentences_claim.specs.Paper as S
 use Rattle.sentences_claim.specs.Tests.{same-before}
+use Rattle.sentences_claim.specs.Counts.{nil-split, head-eq, tail-eq}
 use Rattle.sentences_claim.specs.Holds as Holds
 
 shown-is : {p : ℕ} {y : Answer} {q : ℕ} → S.Shows p y q → shownIn p y ≡ q
@@ -91,20 +94,111 @@ found true k e =
 found false k e =
     record { fails = (λ q. absurd (false≢true q), λ n. absurd (n (e .0 k))); holds = (λ q. e .0 k, λ y. refl) }
 
-told-found : (m : C.Moment) (t : C.Trace) (f : Findings) → Told m t f → S.Finds m t f
-told-found m t f k =
-    record {
-      spacing = found (f .spacing) (k .spacing) (Holds.same-spacing m t);
-      waiting = found (f .waiting) (k .waiting) (Holds.same-waiting m t);
-      moving = found (f .moving) (k .moving) (Holds.same-moving m t);
-      position = found (f .position) (k .position) (Holds.same-position m t);
-      content = found (f .content) (k .content) (Holds.same-content m t);
-      othermove = found (f .othermove) (k .othermove) (Holds.same-other-move m t);
-      otherreport = found (f .otherreport) (k .otherreport) (Holds.same-other-report m t);
-      due = found (f .due) (k .due) (Holds.same-due m t);
-      refusal = found (f .refusal) (k .refusal) (Holds.same-refusal m t);
-    }
+told-by : (b : Bool) {X Y : Type 0} → S.Found b Y → X ↔ Y → Tells b X
+told-by true k e = λ x. k .fails .0 refl (e .0 x)
+told-by false k e = e .1 (k .holds .0 refl)
+
+pub same-told : (m : C.Moment) (t : C.Trace) (f : Findings) → Told m t f ↔ S.Finds m t f
+same-told m t f = (
+  λ k. record {
+    spacing = found (f .spacing) (k .spacing) (Holds.same-spacing m t);
+    waiting = found (f .waiting) (k .waiting) (Holds.same-waiting m t);
+    moving = found (f .moving) (k .moving) (Holds.same-moving m t);
+    position = found (f .position) (k .position) (Holds.same-position m t);
+    content = found (f .content) (k .content) (Holds.same-content m t);
+    othermove = found (f .othermove) (k .othermove) (Holds.same-other-move m t);
+    otherreport = found (f .otherreport) (k .otherreport) (Holds.same-other-report m t);
+    due = found (f .due) (k .due) (Holds.same-due m t);
+    refusal = found (f .refusal) (k .refusal) (Holds.same-refusal m t);
+  },
+  λ k. record {
+    spacing = told-by (f .spacing) (k .spacing) (Holds.same-spacing m t);
+    waiting = told-by (f .waiting) (k .waiting) (Holds.same-waiting m t);
+    moving = told-by (f .moving) (k .moving) (Holds.same-moving m t);
+    position = told-by (f .position) (k .position) (Holds.same-position m t);
+    content = told-by (f .content) (k .content) (Holds.same-content m t);
+    othermove = told-by (f .othermove) (k .othermove) (Holds.same-other-move m t);
+    otherreport = told-by (f .otherreport) (k .otherreport) (Holds.same-other-report m t);
+    due = told-by (f .due) (k .due) (Holds.same-due m t);
+    refusal = told-by (f .refusal) (k .refusal) (Holds.same-refusal m t);
+  },
+)
 
 pub finds : {l : List Heard} {a : Audit} {t : C.Trace} → S.Recorded freshAudit l a t → (s : List ℕ) (y : Answer) (p : ℕ) → S.Shows (S.positionAfter t) y p
     → S.Finds (S.moment s y p) t (auditOf a s y .findings)
-finds {l} {a} {t} g s y p h = rw (← moment-is t s y p h) (told-found _ t _ (told-next a t (follows g) (S.heard s y)))
+finds {l} {a} {t} g s y p h = rw (← moment-is t s y p h) (same-told _ t _ .0 (told-next a t (follows g) (S.heard s y)))
+
+-- ── At each record ──
+
+-- the product's form, by the records before
+record ToldAt (t : C.Trace) (l : List Heard) (fs : List Findings) : Type 0 where
+  pub as-many : length fs ≡ length l
+  pub each : (front : List Heard) (x : Heard) (rest : List Heard) (before : List Findings) (f : Findings) (behind : List Findings)
+      → l ≡ front ++ (x ∷ rest) → fs ≡ before ++ (f ∷ behind) → length before ≡ length front
+      → Told (heardAs (traceFrom t front) x) (traceFrom t front) f
+
+told-first : (t : C.Trace) (x z : Heard) (f g : Findings) → z ≡ x → g ≡ f → Told (heardAs t z) t g → Told (heardAs t x) t f
+told-first t x z f g e h k = rw (← e, ← h) k
+
+told-more : (t : C.Trace) (z : Heard) (l : List Heard) (g : Findings) (fs : List Findings) → Told (heardAs t z) t g → ToldAt (heardAs t z ∷ t) l fs
+    → (front : List Heard) (x : Heard) (rest : List Heard) (before : List Findings) (f : Findings) (behind : List Findings)
+    → z ∷ l ≡ front ++ (x ∷ rest) → g ∷ fs ≡ before ++ (f ∷ behind) → length before ≡ length front
+    → Told (heardAs (traceFrom t front) x) (traceFrom t front) f
+unfolding traceFrom
+told-more t z l g fs k more [] x rest [] f behind e h n = told-first t x z f g (head-eq e) (head-eq h) k
+told-more t z l g fs k more [] x rest (b ∷ before) f behind e h n = absurd (omega arith)
+told-more t z l g fs k more (y ∷ front) x rest [] f behind e h n = absurd (omega arith)
+told-more t z l g fs k more (y ∷ front) x rest (b ∷ before) f behind e h n =
+    let same : z ≡ y = head-eq e in
+    rw (← same) (more .each front x rest before f behind (tail-eq e) (tail-eq h) (omega arith))
+
+told-at : (l : List Heard) (t : C.Trace) (fs : List Findings) → ToldFrom t l fs → ToldAt t l fs
+unfolding traceFrom
+told-at [] t [] k = record { as-many = refl; each = λ front x rest before f behind e h n. absurd (nil-split front x rest e) }
+told-at [] t (f ∷ fs) k = absurd k
+told-at (z ∷ l) t [] k = absurd k
+told-at (z ∷ l) t (g ∷ fs) k =
+    let more = told-at l (heardAs t z ∷ t) fs (k .1) in
+    record { as-many = ap suc (more .as-many); each = told-more t z l g fs (k .0) more }
+
+at-told : (l : List Heard) (t : C.Trace) (fs : List Findings) → ToldAt t l fs → ToldFrom t l fs
+unfolding traceFrom
+at-told [] t [] k = tt
+at-told [] t (f ∷ fs) k = absurd (let n = k .as-many in omega arith)
+at-told (z ∷ l) t [] k = absurd (let n = k .as-many in omega arith)
+at-told (z ∷ l) t (g ∷ fs) k =
+    (k .each [] z l [] g fs refl refl refl,
+    at-told l (heardAs t z ∷ t) fs
+    record {
+      as-many = let n = k .as-many in omega arith;
+      each =
+          λ front x rest before f behind e h n.
+          k .each (z ∷ front) x rest (g ∷ before) f behind (ap (λ u. z ∷ u) e) (ap (λ u. g ∷ u) h) (ap suc n);
+    })
+
+pub same-tells : (l : List Heard) (fs : List Findings) → ToldFrom [] l fs ↔ S.FindsAll l fs
+same-tells l fs = (there, back)
+  where
+    there : ToldFrom [] l fs → S.FindsAll l fs
+    there k =
+        let at = told-at l [] fs k in
+        record {
+          as-many = at .as-many;
+          each =
+              λ front x rest before f behind e h n a t p g sh.
+              let u : traceHeard front ≡ t = sym (recorded-only g .1) in
+              rw (← moment-is t (x .bytes) (x .answer) p sh) (same-told _ t f .0 (rw u at (at .each front x rest before f behind e h n)));
+        }
+
+    back : S.FindsAll l fs → ToldFrom [] l fs
+    back k =
+        at-told l [] fs
+        record {
+          as-many = k .as-many;
+          each =
+              λ front x rest before f behind e h n.
+              let t = traceHeard front in
+              let p = shownIn (C.positionAfter t) (x .answer) in
+              let sh : S.Shows (S.positionAfter t) (x .answer) p = rw (← same-before t) (shows-shown (C.positionAfter t) (x .answer)) in
+              same-told (heardAs t x) t f .1 (k .each front x rest before f behind e h n (auditAfter freshAudit front) t p (recorded-on front S.nothing) sh);
+        }

@@ -5,8 +5,8 @@ use mathlib.Core.Path.{_≡_, refl, _∙_}
 use mathlib.Core.Logic.{_↔_}
 use mathlib.Core.Bool.{Bool, true, false}
 use mathlib.Core.List.{List, [], _∷_, _++_, map}
-use Prim.Native.Nat.{ℕ, _+_, _<_, _≤_}
-use lib.ListN.{length}
+use Prim.Native.Nat.{ℕ, suc, _+_, _<_, _≤_}
+use lib.ListN.{length, drop}
 use Rattle.event.specs.declared.Event.{Event}
 use Rattle.rules.specs.Report.{silent, sent}
 use Rattle.answer.specs.declared.Answer.{Answer}
@@ -27,7 +27,7 @@ use Rattle.history.specs.LogLaws as LogLaws
 use Rattle.audit.specs.declared.Audit.{Audit}
 use Rattle.audit.specs.declared.Findings.{Findings}
 use Rattle.audit.specs.Audit.{freshAudit, saidIn, auditOf}
-use Rattle.recording.specs.Recording.{Heard, traceHeard, findingsFrom, auditAfter}
+use Rattle.recording.specs.Recording.{Heard, recordingOf, traceHeard, Told, ToldFrom, findingsFrom, auditAfter}
 use Rattle.sentences.specs.Words.{firstThatFits}
 use Rattle.sentences.specs.Fields as F
 use Rattle.sentences.specs.Fields.{_≔_, _with_, bare}
@@ -160,7 +160,18 @@ claim t = Traces.same-claim t
 pub hall-claim : (t : C.Trace) → C.HallClaim t ↔ S.Everywhere S.HallHolds t
 hall-claim t = Traces.same-hall-claim t
 
+-- the first sentence by two places of a trace: `j` records stand between the report at `i` and the earlier one
+pub two-reports : (t : C.Trace) → C.Claim t → (i j : ℕ) (m x : C.Moment) (now old : C.Trace)
+    → drop i t ≡ m ∷ now → drop (suc (i + j)) t ≡ x ∷ old → S.Reports x → S.Reports m
+    → S.clock (x ∷ old) + P.MinRepTime (S.inForce m now) ≤ S.clock (m ∷ now)
+two-reports t c i j m x now old e f r q = Traces.two-reports t (claim t .0 c) i j m x now old e f r q
+
 -- ── The list, the drive and the log ──
+
+-- records and what they gave, one after the other
+pub trace-on : (first : C.Trace) (l : List (List ℕ)) (os : List Outcome) (t : C.Trace) → length os ≡ length l
+    → (C.traceOn first l os ≡ t) ↔ S.Traced first l os t
+trace-on first l os t n = Traces.same-traced first l os t n
 
 -- "The first event record goes to a fresh drive, each later one to the drive that the one before left, refused or not, and nobody else
 -- writes it in between."
@@ -317,6 +328,18 @@ carried l a t = Recordings.carried l a t
 pub findings : (l : List Heard) (x : Heard)
     → findingsFrom freshAudit (l ++ (x ∷ [])) ≡ findingsFrom freshAudit l ++ (auditOf (auditAfter freshAudit l) (x .bytes) (x .answer) .findings ∷ [])
 findings l x = Recordings.findings-snoc l x freshAudit
+
+-- what is told of a list that a drive was given
+pub recorded : (step : Step) (l : List (List ℕ)) (d : Drive) (t : C.Trace) → S.Given step freshDrive l d t
+    → recordingOf l (outcomes step freshDrive l) ≡ S.recording t
+recorded step l d t g = Traces.same-recording step freshDrive l d t g
+
+-- the theorem of the audit, `audit-tells`, at one record and at each of a recording
+pub told : (m : C.Moment) (t : C.Trace) (f : Findings) → Told m t f ↔ S.Finds m t f
+told m t f = Recordings.same-told m t f
+
+pub told-from : (l : List Heard) (fs : List Findings) → ToldFrom [] l fs ↔ S.FindsAll l fs
+told-from l fs = Recordings.same-tells l fs
 
 -- For every recording of any drive, each finding is true where its sentence fails, and only there.
 pub finds : (l : List Heard) (a : Audit) (t : C.Trace) → S.Recorded freshAudit l a t → (s : List ℕ) (y : Answer) (p : ℕ) → S.Shows (S.positionAfter t) y p

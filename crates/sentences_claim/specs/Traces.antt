@@ -3,10 +3,11 @@ use mathlib.Core.Path.{_≡_, refl, sym, ap, subst, _∙_}
 use mathlib.Core.Logic.{_↔_}
 use mathlib.Core.List.{List, [], _∷_, _++_, append-nil, append-assoc, nil≢cons}
 use mathlib.Core.Bool.{Bool, true, false}
-use Prim.Native.Nat.{ℕ, zero, suc, _+_}
+use Prim.Native.Nat.{ℕ, zero, suc, _+_, _≤_}
+use native.Mathlib.Omega.{arith}
 use native.Mathlib.Numerals.{add-one}
-use lib.ListN.{length, drop}
-use lib.Seq.{drop-nil, append-snoc}
+use lib.ListN.{length, drop, length-append}
+use lib.Seq.{drop-nil, drop-drop, append-snoc}
 use Rattle.numbers.specs.Laws.{cases}
 use Rattle.rules.specs.Report.{Sent, silent, sent}
 use Rattle.damper.specs.declared.Drive.{Drive}
@@ -20,6 +21,8 @@ use Rattle.history.specs.Claim.{momentOf}
 use Rattle.history.specs.Waits.{silent-in}
 use Rattle.history.specs.Theorem.{demand-3}
 use Rattle.history.specs.LogLaws.{log-read}
+use Rattle.recording.specs.Recording.{recordingOf}
+use Rattle.sentences.specs.Paper as P
 use Rattle.sentences_claim.specs.Paper as S
 use Rattle.sentences_claim.specs.Tests.{unset, reports, report-gives, gives-in}
 use Rattle.sentences_claim.specs.Counts.{head-eq, tail-eq}
@@ -63,7 +66,44 @@ same-hall-claim t = (there t, back t)
     back [] f = tt
     back (m ∷ t) f = (same-hall-holds m t .1 (f 0 m t refl), back t (λ i x old e. f (suc i) x old e))
 
+-- by two places: the later report at `i`, the earlier one `j` records behind it
+pub two-reports : (t : C.Trace) → S.Everywhere S.Holds t → (i j : ℕ) (m x : C.Moment) (now old : C.Trace)
+    → drop i t ≡ m ∷ now → drop (suc (i + j)) t ≡ x ∷ old → S.Reports x → S.Reports m
+    → S.clock (x ∷ old) + P.MinRepTime (S.inForce m now) ≤ S.clock (m ∷ now)
+two-reports t h i j m x now old e f r q =
+    let g : suc (i + j) ≡ i + suc j = omega arith in
+    let k : drop j now ≡ x ∷ old = ap (drop (suc j)) (sym e) ∙ drop-drop (suc j) i t ∙ ap (λ (n : ℕ). drop n t) (sym g) ∙ f in
+    h i m now e .spacing j x old k r q
+
 -- ── The trace of a drive ──
+
+traced-on : (l : List (List ℕ)) (os : List Outcome) {k : List (List ℕ)} {ps : List Outcome} {first t : C.Trace} → length os ≡ length l
+    → S.Traced first k ps t → S.Traced first (k ++ l) (ps ++ os) (C.traceOn t l os)
+unfolding C.traceOn
+traced-on [] [] {k} {ps} e g = rw (append-nil k, append-nil ps) g
+traced-on [] (o ∷ os) e g = absurd (omega arith)
+traced-on (s ∷ l) [] e g = absurd (omega arith)
+traced-on (s ∷ l) (o ∷ os) {k} {ps} e g = rw (← append-snoc k s l, ← append-snoc ps o os) (traced-on l os (omega arith) (S.next g s o))
+
+traced-snoc : (l : List (List ℕ)) (os : List Outcome) (s : List ℕ) (o : Outcome) (t : C.Trace) → length os ≡ length l
+    → C.traceOn t (l ++ (s ∷ [])) (os ++ (o ∷ [])) ≡ momentOf s o ∷ C.traceOn t l os
+unfolding C.traceOn
+traced-snoc [] [] s o t e = refl
+traced-snoc [] (p ∷ os) s o t e = absurd (omega arith)
+traced-snoc (x ∷ l) [] s o t e = absurd (omega arith)
+traced-snoc (x ∷ l) (p ∷ os) s o t e = traced-snoc l os s o (momentOf x p ∷ t) (omega arith)
+
+traced-only : {l : List (List ℕ)} {os : List Outcome} {first t : C.Trace} → S.Traced first l os t
+    → (length os ≡ length l) × (C.traceOn first l os ≡ t)
+unfolding C.traceOn
+traced-only S.nothing = (refl, refl)
+traced-only {first = first} (S.next {l} {os} g s o) =
+    let e = traced-only g in
+    (simp length-append (omega (arith, e .0)), traced-snoc l os s o first (e .0) ∙ ap (λ u. momentOf s o ∷ u) (e .1))
+
+pub same-traced : (first : C.Trace) (l : List (List ℕ)) (os : List Outcome) (t : C.Trace) → length os ≡ length l
+    → (C.traceOn first l os ≡ t) ↔ S.Traced first l os t
+same-traced first l os t n = (λ e. subst (S.Traced first l os) e (traced-on l os n S.nothing), λ g. traced-only g .1)
 
 module _ (step : Step) (first : Drive) where
   given-on : (l : List (List ℕ)) {k : List (List ℕ)} {d : Drive} {t : C.Trace} → S.Given step first k d t
@@ -118,6 +158,18 @@ module _ (step : Step) (first : Drive) where
       (λ q.
       rw (silent-in (m .answer) q)
       (rw (← add-one (length t)) at (logged-on l (o .drive) (m ∷ t) es (S.silent m g (unset _ (reports m) .0 q)))))
+
+  -- ── The recording ──
+
+  recorded-on : (l : List (List ℕ)) (d : Drive) (t : C.Trace)
+      → S.recording t ++ recordingOf l (outcomes step d l) ≡ S.recording (C.traceOn t l (outcomes step d l))
+  unfolding outcomes C.traceOn recordingOf
+  recorded-on [] d t = append-nil (S.recording t)
+  recorded-on (s ∷ l) d t =
+      sym (append-snoc (S.recording t) (S.heard s (step d s .answer)) _) ∙ recorded-on l (step d s .drive) (momentOf s (step d s) ∷ t)
+
+  pub same-recording : (l : List (List ℕ)) (d : Drive) (t : C.Trace) → S.Given step first l d t → recordingOf l (outcomes step first l) ≡ S.recording t
+  same-recording l d t g = recorded-on l first [] ∙ ap S.recording (sym (given-only g .1))
 
 -- the log of a trace
 logAt : C.Trace → List Entry
