@@ -45,7 +45,7 @@ use Rattle.sentences.specs.Exists.{some-tick}
 use Rattle.sentences.specs.Forms.{same-formed}
 use Rattle.sentences.specs.Events as Events
 use Rattle.sentences_claim.specs.Paper as S
-use Rattle.sentences_claim.specs.Tests.{Says, unset, negated, both, equal, below, at-most, same-flags, same-number, new-flag, gives-report}
+use Rattle.sentences_claim.specs.Tests.{Says, unset, negated, both, equal, below, at-most, same-number, new-flag, gives-report}
 use Rattle.sentences_claim.specs.Holds.{moved-is}
 
 -- ── What an answer says ──
@@ -123,12 +123,14 @@ module _ (d : Drive) (s : List ℕ) (w : wellFormed d ≡ true) where
       kind-is : firstThatFits (P.turnedDown d s) ≡ 0 → kindIn s ≡ getD s 2 0
       kind-is z = rw (passes (same-refusals d s ∙ z))
 
-      there : eqb (saidIn 0 (stepOf d s .answer) .number) 0 && eqb (kindIn s) k ≡ true → (firstThatFits (P.turnedDown d s) ≡ 0) × (getD s 2 0 ≡ k)
+      there : eqb (saidIn 0 (stepOf d s .answer) .number) 0 && eqb (kindIn s) k ≡ true
+          → (firstThatFits (P.turnedDown d s) ≡ 0) × (getD s 2 0 ≡ k)
       there e =
           let z = sym own-number ∙ eqb-true _ 0 (and-left (eqb (saidIn 0 (stepOf d s .answer) .number) 0) _ e) in
           (z, sym (kind-is z) ∙ eqb-true (kindIn s) k (and-right (eqb (saidIn 0 (stepOf d s .answer) .number) 0) _ e))
 
-      back : (firstThatFits (P.turnedDown d s) ≡ 0) × (getD s 2 0 ≡ k) → eqb (saidIn 0 (stepOf d s .answer) .number) 0 && eqb (kindIn s) k ≡ true
+      back : (firstThatFits (P.turnedDown d s) ≡ 0) × (getD s 2 0 ≡ k)
+          → eqb (saidIn 0 (stepOf d s .answer) .number) 0 && eqb (kindIn s) k ≡ true
       back p = and-intro (eq-eqb _ 0 (own-number ∙ p .0)) (eq-eqb (kindIn s) k (kind-is (p .0) ∙ p .1))
 
   -- whether a tick reports
@@ -137,8 +139,8 @@ module _ (d : Drive) (s : List ℕ) (w : wellFormed d ≡ true) where
       let z : refusalOf d s ≡ 0 = same-refusals d s ∙ k .0 in
       let n = advance d .drive in
       let e : saidIn 0 (stepOf d s .answer) .reports ≡ dueWith n (statusOf n) =
-          said-reports 0 (stepOf d s .answer) ∙ ap (λ o. isReport (o .answer)) (F.step-accepted d s z)
-          ∙ F.report-after d (eventIn s) (known z) ∙ rw (k .1) in
+      said-reports 0 (stepOf d s .answer) ∙ ap (λ o. isReport (o .answer)) (F.step-accepted d s z)
+      ∙ F.report-after d (eventIn s) (known z) ∙ rw (k .1) in
       rw e (same-due n (statusOf n))
 
 -- the position that a tick leads to from the place `p`
@@ -173,7 +175,8 @@ differ : (c q : Bool) {X Y : Type 0} → Says q X → Says c Y → Says ((c && n
 differ true true e f = (λ z. absurd (false≢true z), λ n. absurd (n (λ x. f .0 refl, λ y. e .0 refl)))
 differ true false e f = (λ z k. false≢true (e .1 (k .1 (f .0 refl))), λ n. refl)
 differ false true e f = (λ z k. false≢true (f .1 (k .0 (e .0 refl))), λ n. refl)
-differ false false e f = (λ z. absurd (false≢true z), λ n. absurd (n (λ x. absurd (false≢true (e .1 x)), λ y. absurd (false≢true (f .1 y)))))
+differ false false e f =
+    (λ z. absurd (false≢true z), λ n. absurd (n (λ x. absurd (false≢true (e .1 x)), λ y. absurd (false≢true (f .1 y)))))
 
 -- a flag that is looked at only where another is set
 where-set : (b c : Bool) {X Y : Type 0} → Says b X → (X → Says c Y) → Says (b && c) (X × Y)
@@ -236,8 +239,9 @@ module _ (a : Audit) (s : List ℕ) (y : Answer) (w : wellFormed (a .drive) ≡ 
   pub spacing : (n : ℕ) → S.Counted d s (a .apart) n → Says (f .spacing) (P.IsReport y × (n < P.MinRepTime (o .drive .params)))
   unfolding findingsOf metBy
   spacing n c =
-      by (ap (λ (k : Findings). k .spacing) findings-are ∙ ap (λ (i : ℕ). x .reports && ltb i (minRepTime (o .drive .params))) (counted-is (a .apart) n c))
-      (both (x .reports) (ltb n (minRepTime (o .drive .params))) heard (below n (minRepTime (o .drive .params))))
+      let time = minRepTime (o .drive .params) in
+      by (ap (λ (k : Findings). k .spacing) findings-are ∙ ap (λ (i : ℕ). x .reports && ltb i time) (counted-is (a .apart) n c))
+      (both (x .reports) (ltb n time) heard (below n time))
 
   pub waiting : Says (f .waiting)
       (S.TickOf d s × (P.IsReport y → ⊥) × (P.MinRepTime (o .drive .params) ≤ P.oneMore (d .since))
@@ -247,9 +251,10 @@ module _ (a : Audit) (s : List ℕ) (y : Answer) (w : wellFormed (a .drive) ≡ 
       let time = minRepTime (o .drive .params) in
       let up = leb time (pick tick (next (d .since)) (d .since)) in
       let new = differsFrom (o .drive) (statusOf (o .drive)) (d .last) in
-      let n = new-flag (o .drive .params) (o .drive .position) (statusOf (o .drive)) (d .last .reported) (d .last .position) (d .last .status) in
+      let l = d .last in
+      let n = new-flag (o .drive .params) (o .drive .position) (statusOf (o .drive)) (l .reported) (l .position) (l .status) in
       let in-time : S.TickOf d s → Says up (time ≤ P.oneMore (d .since)) =
-          λ k. by (ap (leb time) (counted-is (d .since) _ (S.one-more k))) (at-most time (P.oneMore (d .since))) in
+      λ k. by (ap (leb time) (counted-is (d .since) _ (S.one-more k))) (at-most time (P.oneMore (d .since))) in
       let z = both (not (x .reports)) new (negated (x .reports) heard) n in
       let all = where-set tick (up && (not (x .reports) && new)) is-tick (λ k. both up (not (x .reports) && new) (in-time k) z) in
       by (ap (λ (k : Findings). k .waiting) findings-are ∙ regroup tick (not (x .reports)) up new)
@@ -277,11 +282,11 @@ module _ (a : Audit) (s : List ℕ) (y : Answer) (w : wellFormed (a .drive) ≡ 
       let p = o .drive .position in
       let v = statusOf (o .drive) in
       let there : P.IsReport y → eqb (x .position) p && eqb (x .status) v ≡ true → S.Gives y p v =
-          λ r e.
-          subst (λ (k : ℕ). S.Gives y k v) (eqb-true (x .position) p (and-left (eqb (x .position) p) _ e))
-          (subst (S.Gives y (x .position)) (eqb-true (x .status) v (and-right (eqb (x .position) p) _ e)) (said-gives (a .seen) y r)) in
+      λ r e.
+      subst (λ (k : ℕ). S.Gives y k v) (eqb-true (x .position) p (and-left (eqb (x .position) p) _ e))
+      (subst (S.Gives y (x .position)) (eqb-true (x .status) v (and-right (eqb (x .position) p) _ e)) (said-gives (a .seen) y r)) in
       let back : S.Gives y p v → eqb (x .position) p && eqb (x .status) v ≡ true =
-          λ g. let z = gives-said (a .seen) g in and-intro (eq-eqb (x .position) p (z .0)) (eq-eqb (x .status) v (z .1)) in
+      λ g. let z = gives-said (a .seen) g in and-intro (eq-eqb (x .position) p (z .0)) (eq-eqb (x .status) v (z .1)) in
       let same = eqb (x .position) p && eqb (x .status) v in
       by (ap (λ (k : Findings). k .content) findings-are)
       (where-set (x .reports) (not same) heard (λ r. negated same (there r, back)))
@@ -301,7 +306,8 @@ module _ (a : Audit) (s : List ℕ) (y : Answer) (w : wellFormed (a .drive) ≡ 
   due-found =
       let own = saidIn 0 (o .answer) .reports in
       by (ap (λ (k : Findings). k .due) findings-are)
-      (where-set tick ((own && not (x .reports)) || (not own && x .reports)) is-tick (λ k. differ own (x .reports) heard (tick-due d s w k)))
+      (where-set tick ((own && not (x .reports)) || (not own && x .reports)) is-tick
+      (λ k. differ own (x .reports) heard (tick-due d s w k)))
 
   pub refusal : Says (f .refusal) (S.Number y (firstThatFits (P.turnedDown d s)) → ⊥)
   unfolding findingsOf metBy
@@ -317,9 +323,10 @@ module _ (a : Audit) (s : List ℕ) (y : Answer) (w : wellFormed (a .drive) ≡ 
       let words = eqb (wordOf y) (wordOf (o .answer)) in
       let codes = eqb (codeOf y) (codeOf (o .answer)) in
       by (ap (λ (z : Findings). z .answer) findings-are)
-      (negated (words && codes)
-      (λ e. same (eqb-true _ _ (and-left words codes e)) (eqb-true _ _ (and-right words codes e)),
-      λ e. and-intro (eq-eqb _ _ (ap wordOf e)) (eq-eqb _ _ (ap codeOf e))))
+      (negated (words && codes) (
+        λ e. same (eqb-true _ _ (and-left words codes e)) (eqb-true _ _ (and-right words codes e)),
+        λ e. and-intro (eq-eqb _ _ (ap wordOf e)) (eq-eqb _ _ (ap codeOf e)),
+      ))
     where
       same : wordOf y ≡ wordOf (o .answer) → codeOf y ≡ codeOf (o .answer) → y ≡ o .answer
       same u v = sym (answer-again y h) ∙ (λ i. answerOf (u i) (v i)) ∙ answer-again (o .answer) k

@@ -82,7 +82,8 @@ without-more m t new old e r q w =
 since-over : (new old : C.Trace) → C.Quiet old new → C.since (new ++ old) ≡ C.ticksIn new old + C.since old
 unfolding Counts.since Counts.ticksIn
 since-over [] old q = omega arith
-since-over (m ∷ new) old (Counts.more p q qs) = rw (p, q) (sym (one-more (C.acceptedAs R.isTick m (new ++ old)) _ _ _ (sym (since-over new old qs))))
+since-over (m ∷ new) old (Counts.more p q qs) =
+    rw (p, q) (sym (one-more (C.acceptedAs R.isTick m (new ++ old)) _ _ _ (sym (since-over new old qs))))
 
 since-report : (x : C.Moment) (old : C.Trace) → S.Reports x → C.since (x ∷ old) ≡ 0
 unfolding Counts.since
@@ -93,8 +94,8 @@ unfolding Counts.since
 since-restart x old r = rw (same-restart x old .1 r, or-true)
 
 -- a stretch after a record at which it is 0
-since-after : (t new : C.Trace) (x : C.Moment) (old : C.Trace) (n : ℕ) → t ≡ new ++ (x ∷ old) → C.since (x ∷ old) ≡ 0 → S.Without (x ∷ old) new
-    → S.clock t ≡ S.clock (x ∷ old) + n → C.since t ≡ n
+since-after : (t new : C.Trace) (x : C.Moment) (old : C.Trace) (n : ℕ) → t ≡ new ++ (x ∷ old) → C.since (x ∷ old) ≡ 0
+    → S.Without (x ∷ old) new → S.clock t ≡ S.clock (x ∷ old) + n → C.since t ≡ n
 since-after t new x old n e z w c =
     let a : C.since t ≡ C.since (new ++ (x ∷ old)) = ap C.since e in
     let b = since-over new (x ∷ old) (without-quiet (x ∷ old) new w) in
@@ -137,7 +138,8 @@ since-is (m ∷ t) =
     (λ r. S.after-report [] m t refl (reports m .0 r) (without-none (m ∷ t)) (omega arith))
     (λ r. S.after-restart [] m t refl (same-restart m t .0 r) (without-none (m ∷ t)) (omega arith))))
     (λ q. rw q
-    (since-more m t _ (unset _ (same-restart m t) .0 (or-right (C.reports m) _ q)) (unset _ (reports m) .0 (or-left (C.reports m) _ q)) (since-is t)))
+    (since-more m t _ (unset _ (same-restart m t) .0 (or-right (C.reports m) _ q)) (unset _ (reports m) .0 (or-left (C.reports m) _ q))
+    (since-is t)))
 
 pub same-since : (t : C.Trace) (n : ℕ) → (C.since t ≡ n) ↔ S.Since t n
 same-since t n = (λ e. subst (S.Since t) e (since-is t), since-only)

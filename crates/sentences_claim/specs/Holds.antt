@@ -40,7 +40,9 @@ use Rattle.sentences.specs.Ticks.{same-move}
 use Rattle.sentences.specs.Exists.{some-move}
 use Rattle.sentences.specs.Rules.{same-due-silent, same-due-sent}
 use Rattle.sentences_claim.specs.Paper as S
-use Rattle.sentences_claim.specs.Tests.{Says, unset, same-flags, equal, same-tick, same-restart, no-restart, reports, same-before, events-are, events-only, report-gives, gives-report, gives-in, same-number, number-one, new-flag}
+use Rattle.sentences_claim.specs.Tests.{Says, unset, same-flags, same-tick, same-restart, no-restart, reports, same-before}
+use Rattle.sentences_claim.specs.Tests.{events-are, events-only, report-gives, gives-report, gives-in, same-number, number-one}
+use Rattle.sentences_claim.specs.Tests.{new-flag}
 use Rattle.sentences_claim.specs.Counts.{clock-more, ticks-clock, since-is, since-only, last-only, some-last, sentOf}
 
 -- ── MinRepTime is from 1 to 3,600 after every trace ──
@@ -84,13 +86,24 @@ moved-is p t r x =
     let m = some-move p t r in
     (λ e. subst (P.Moved p t r) (sym (e ∙ same-move p t r (m .0) (m .1))) (m .1), λ h. sym (same-move p t r x h))
 
-distances : (p t r x : ℕ) → ((distance p x ≡ min r (distance p t)) × (distance x t + min r (distance p t) ≡ distance p t)) ↔ (x ≡ toward p t r)
+distances : (p t r x : ℕ)
+    → ((distance p x ≡ min r (distance p t)) × (distance x t + min r (distance p t) ≡ distance p t)) ↔ (x ≡ toward p t r)
 distances p t r x = (
   λ h. cases (eqb x (toward p t r)) (λ q. eqb-true x (toward p t r) q) (λ q. absurd ((rw q at (move-told x p t r)) h)),
   λ e. rw e (move-distance p t r, move-left p t r),
 )
 
 -- ── One record after a trace ──
+
+-- by what the records of a trace are counted
+abbrev ticks : Counts.Test C.Moment
+ticks = C.acceptedAs R.isTick
+
+abbrev restarts : Counts.Test C.Moment
+restarts = C.acceptedAs R.isRestart
+
+abbrev reported : Counts.Test C.Moment
+reported m t = C.reports m
 
 module _ (m : C.Moment) (t : C.Trace) where
   abbrev now : List Event
@@ -112,7 +125,8 @@ module _ (m : C.Moment) (t : C.Trace) where
 
       back : S.Spacing m t → C.Spacing m t
       back f between x old e r q =
-          let l = f (length between) x old (ap (drop (length between)) e ∙ drop-append-seam between (x ∷ old)) (reports x .0 r) (reports m .0 q) in
+          let place : drop (length between) t ≡ x ∷ old = ap (drop (length between)) e ∙ drop-append-seam between (x ∷ old) in
+          let l = f (length between) x old place (reports x .0 r) (reports m .0 q) in
           let c = ticks-clock (m ∷ between) (x ∷ old) in
           let k : S.clock (m ∷ t) ≡ S.clock (m ∷ (between ++ (x ∷ old))) = ap (λ u. S.clock (m ∷ u)) e in
           omega arith
@@ -151,7 +165,7 @@ module _ (m : C.Moment) (t : C.Trace) where
           let a = since-only since in
           let b = since-tick k silent in
           let up′ : minRepTime (C.inForce m t) ≤ C.since (m ∷ t) = omega arith in
-          let row = since-stretch (C.acceptedAs R.isTick) (λ y u. C.reports y) (C.acceptedAs R.isRestart) (m ∷ t) (minRepTime (C.inForce m t)) up′ in
+          let row = since-stretch ticks reported restarts (m ∷ t) (minRepTime (C.inForce m t)) up′ in
           let z = w (row .new) (row .old) (row .split) (same-tick m t .1 k) (row .ticks) (row .quiet) in
           let l = rw (last-kept (no-restart m t k) silent) at (z .1) in
           let f : new ≡ false = sent-same _ _ _ (z .0) (C.lastReport t) l (z .2) in
@@ -159,11 +173,12 @@ module _ (m : C.Moment) (t : C.Trace) where
 
       back : S.Waiting m t → C.Waiting m t
       back w row old e k n quiet =
-          let z = quiet-last (C.acceptedAs R.isTick) (λ y u. C.reports y) (C.acceptedAs R.isRestart) m t row old e (rw n (time (m ∷ t))) quiet in
+          let z = quiet-last ticks reported restarts m t row old e (rw n (time (m ∷ t))) quiet in
           let up : minRepTime (C.inForce m t) ≤ C.since t + 1 = rw n at (z .2) in
           let tk = same-tick m t .0 k in
           let last = some-last t in
-          let f : new ≡ false = unset new (same-new (last .3)) .1 (w tk (unset _ (reports m) .0 (z .1)) (C.since t) _ _ _ (since-is t) (last .3) up) in
+          let none = w tk (unset _ (reports m) .0 (z .1)) (C.since t) _ _ _ (since-is t) (last .3) up in
+          let f : new ≡ false = unset new (same-new (last .3)) .1 none in
           let s = same-sent _ _ _ (C.lastReport t) f in
           (s .0, last-kept (no-restart m t tk) (z .1) ∙ s .1, s .2)
 
@@ -173,7 +188,9 @@ module _ (m : C.Moment) (t : C.Trace) where
     λ f k. go (C.positionAfter t) .1 (rw (← same-before t) at (f (same-tick m t .0 k))),
   )
     where
-      go : (p : ℕ) → (let target = R.targetFrom p (eventIn (m .bytes)) (C.accepted t) in let step = min (rate (C.inForce m t)) (distance p target) in
+      go : (p : ℕ)
+          → (let target = R.targetFrom p (eventIn (m .bytes)) (C.accepted t) in
+          let step = min (rate (C.inForce m t)) (distance p target) in
           ((distance p (m .position) ≡ step) × (distance (m .position) target + step ≡ distance p target))
           ↔ P.Moved p target (P.Rate (S.inForce m t)) (m .position))
       go p =
@@ -199,9 +216,9 @@ module _ (m : C.Moment) (t : C.Trace) where
   same-other-move = (
     λ f n. cases tick (λ k. same-tick m t .0 k) (λ k. absurd (n (f k ∙ same-before t))),
     λ f k.
-    cases (eqb (m .position) (S.positionAfter t))
-    (λ e. eqb-true _ _ e ∙ sym (same-before t))
-    (λ e. absurd (unset _ (same-tick m t) .0 k (f (eqb-false _ _ e)))),
+        cases (eqb (m .position) (S.positionAfter t))
+        (λ e. eqb-true _ _ e ∙ sym (same-before t))
+        (λ e. absurd (unset _ (same-tick m t) .0 k (f (eqb-false _ _ e)))),
   )
 
   pub same-other-report : (tick ≡ false → C.reports m ≡ false) ↔ S.OtherReport m t
@@ -230,25 +247,25 @@ module _ (m : C.Moment) (t : C.Trace) where
   same-due = (
     λ f k n r p s a b. same-flags (C.reports m) (C.dueIn m t) (reports m) (due-at n r p s a b) .0 (f (same-tick m t .1 k)),
     λ f k.
-    let l = some-last t in
-    same-flags (C.reports m) (C.dueIn m t) (reports m) (due-at (C.since t) _ _ _ (since-is t) (l .3)) .1
-    (f (same-tick m t .0 k) (C.since t) _ _ _ (since-is t) (l .3)),
+        let l = some-last t in
+        same-flags (C.reports m) (C.dueIn m t) (reports m) (due-at (C.since t) _ _ _ (since-is t) (l .3)) .1
+        (f (same-tick m t .0 k) (C.since t) _ _ _ (since-is t) (l .3)),
   )
 
   pub same-only : C.OnlyDue m t ↔ S.OnlyDue m t
   same-only = (
     λ f k q n r p s a b. due-at n r p s a b .0 (f (same-tick m t .1 k) (reports m .1 q)),
     λ f k q.
-    let l = some-last t in
-    due-at (C.since t) _ _ _ (since-is t) (l .3) .1 (f (same-tick m t .0 k) (reports m .0 q) (C.since t) _ _ _ (since-is t) (l .3)),
+        let l = some-last t in
+        due-at (C.since t) _ _ _ (since-is t) (l .3) .1 (f (same-tick m t .0 k) (reports m .0 q) (C.since t) _ _ _ (since-is t) (l .3)),
   )
 
   pub same-waiting-undue : C.WaitingUndue m t ↔ S.WaitingUndue m t
   same-waiting-undue = (
     λ f n r p s a b h. same-waiting .0 (f (unset _ (due-at n r p s a b) .1 h)),
     λ f e.
-    let l = some-last t in
-    same-waiting .1 (f (C.since t) _ _ _ (since-is t) (l .3) (unset _ (due-at (C.since t) _ _ _ (since-is t) (l .3)) .0 e)),
+        let l = some-last t in
+        same-waiting .1 (f (C.since t) _ _ _ (since-is t) (l .3) (unset _ (due-at (C.since t) _ _ _ (since-is t) (l .3)) .0 e)),
   )
 
   pub same-refusal : C.Refusal m t ↔ S.Refusal m t

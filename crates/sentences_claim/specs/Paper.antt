@@ -1,6 +1,6 @@
 -- Demand 3, document 01's paragraph on it, and what an audit finds, sentence by sentence, in a second form. A trace is a list of moments,
--- the latest first; a sentence speaks of the record `m`, which came after the trace `t`. What is read off the list of accepted events has
--- its own name in the crate history: judgement, parameters, target, position and status.
+-- the latest first; a sentence speaks of the record `m`, which came after the trace `t`. `accepted` are the events that `Events` says; what
+-- is read off a list of accepted events keeps its name of the crate history: judgement, parameters, target, position and status.
 use mathlib.Core.Path.{_≡_}
 use mathlib.Core.Logic.{_↔_}
 use mathlib.Core.Bool.{Bool, true, false}
@@ -79,7 +79,8 @@ pub data Since (t : Trace) (n : ℕ) : Type 0 where
 pub data Last (t : Trace) : ℕ → ℕ → ℕ → Type 0 where
   reported : {p s : ℕ} (new : Trace) (x : Moment) (old : Trace) → t ≡ new ++ (x ∷ old) → Gives (x .answer) p s → (RestartAt x old → ⊥)
       → Without (x ∷ old) new → Last t 1 p s
-  none-since-restart : (new : Trace) (x : Moment) (old : Trace) → t ≡ new ++ (x ∷ old) → RestartAt x old → Without (x ∷ old) new → Last t 0 0 0
+  none-since-restart : (new : Trace) (x : Moment) (old : Trace) → t ≡ new ++ (x ∷ old) → RestartAt x old → Without (x ∷ old) new
+      → Last t 0 0 0
   none-at-all : Without [] t → Last t 0 0 0
 
 -- "a position that differs from the last one reported by ActPosCOV or more, or a status other than the last one reported"; "no report since
@@ -111,8 +112,8 @@ Waiting m t = TickAt m t → (Reports m → ⊥) → (n r p s : ℕ) → Since t
 abbrev pub positionAfter : Trace → ℕ
 positionAfter t = getD (map (λ (m : Moment). m .position) t) 0 0
 
--- "Each tick moves the damper by Rate or the distance, the smaller, toward the target of the highest commander which the list makes active
--- then."
+-- "Each tick moves the damper by Rate or the distance, the smaller, toward the target of the highest commander which the list makes
+-- active then."
 abbrev pub Move : Moment → Trace → Type 0
 Move m t = TickAt m t
     → P.Moved (positionAfter t) (targetFrom (positionAfter t) (P.eventIn (m .bytes)) (accepted t)) (P.Rate (inForce m t)) (m .position)
@@ -288,7 +289,7 @@ pub record Finds (m : Moment) (t : Trace) (f : Findings) : Type 0 where
   pub due : Found (f .due) (Due m t)
   pub refusal : Found (f .refusal) (Refusal m t)
 
--- as many findings as records, and each about its own: `f` is found at the record that was answered by `y`
+-- as many findings as records, and each about its own: `f` is found at the record `x`, which came after the records `front`
 pub record FindsAll (l : List Heard) (fs : List Findings) : Type 0 where
   pub as-many : length fs ≡ length l
   pub each : (front : List Heard) (x : Heard) (rest : List Heard) (before : List Findings) (f : Findings) (behind : List Findings)

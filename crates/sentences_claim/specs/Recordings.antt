@@ -37,6 +37,9 @@ shows-shown p (At q c s) = S.position q c s
 shows-shown p (Tick q r m) = S.tick q r m
 shows-shown p (Report q r m s) = S.report q r m s
 
+heard-shows : (t : C.Trace) (y : Answer) → S.Shows (S.positionAfter t) y (shownIn (C.positionAfter t) y)
+heard-shows t y = rw (← same-before t) (shows-shown (C.positionAfter t) y)
+
 -- the moment of a record
 moment-is : (t : C.Trace) (s : List ℕ) (y : Answer) (p : ℕ) → S.Shows (S.positionAfter t) y p → heardAs t (S.heard s y) ≡ S.moment s y p
 moment-is t s y p h =
@@ -45,14 +48,15 @@ moment-is t s y p h =
 
 -- ── Carried over a recording ──
 
-pub recorded-on : (l : List Heard) {k : List Heard} {a : Audit} {t : C.Trace} → S.Recorded freshAudit k a t → S.Recorded freshAudit (k ++ l) (auditAfter a l) (traceFrom t l)
+pub recorded-on : (l : List Heard) {k : List Heard} {a : Audit} {t : C.Trace} → S.Recorded freshAudit k a t
+    → S.Recorded freshAudit (k ++ l) (auditAfter a l) (traceFrom t l)
 unfolding auditAfter traceFrom
 recorded-on [] {k} g = rw append-nil g
 recorded-on (x ∷ l) {k} {a} {t} g =
-    rw (← append-snoc k x l)
-    (recorded-on l (S.next g (x .bytes) (x .answer) (shownIn (C.positionAfter t) (x .answer)) (rw (← same-before t) (shows-shown (C.positionAfter t) (x .answer)))))
+    rw (← append-snoc k x l) (recorded-on l (S.next g (x .bytes) (x .answer) _ (heard-shows t (x .answer))))
 
-audit-snoc : (l : List Heard) (x : Heard) (a : Audit) → auditAfter a (l ++ (x ∷ [])) ≡ auditOf (auditAfter a l) (x .bytes) (x .answer) .audit
+audit-snoc : (l : List Heard) (x : Heard) (a : Audit)
+    → auditAfter a (l ++ (x ∷ [])) ≡ auditOf (auditAfter a l) (x .bytes) (x .answer) .audit
 unfolding auditAfter
 audit-snoc [] x a = refl
 audit-snoc (z ∷ l) x a = audit-snoc l x (auditOf a (z .bytes) (z .answer) .audit)
@@ -62,15 +66,18 @@ unfolding traceFrom
 trace-snoc [] x t = refl
 trace-snoc (z ∷ l) x t = trace-snoc l x (heardAs t z ∷ t)
 
-pub recorded-only : {l : List Heard} {a : Audit} {t : C.Trace} → S.Recorded freshAudit l a t → (a ≡ auditAfter freshAudit l) × (t ≡ traceHeard l)
+pub recorded-only : {l : List Heard} {a : Audit} {t : C.Trace} → S.Recorded freshAudit l a t
+    → (a ≡ auditAfter freshAudit l) × (t ≡ traceHeard l)
 unfolding auditAfter traceFrom
 recorded-only S.nothing = (refl, refl)
 recorded-only (S.next {l} {a} {t} g s y p h) =
-    let e = recorded-only g in
-    (ap (λ (z : Audit). auditOf z s y .audit) (e .0) ∙ sym (audit-snoc l (S.heard s y) freshAudit),
-    sym (ap (λ m. m ∷ t) (moment-is t s y p h)) ∙ ap (λ u. heardAs u (S.heard s y) ∷ u) (e .1) ∙ sym (trace-snoc l (S.heard s y) []))
+    let e = recorded-only g in (
+      ap (λ (z : Audit). auditOf z s y .audit) (e .0) ∙ sym (audit-snoc l (S.heard s y) freshAudit),
+      sym (ap (λ m. m ∷ t) (moment-is t s y p h)) ∙ ap (λ u. heardAs u (S.heard s y) ∷ u) (e .1) ∙ sym (trace-snoc l (S.heard s y) []),
+    )
 
-pub carried : (l : List Heard) (a : Audit) (t : C.Trace) → ((auditAfter freshAudit l ≡ a) × (traceHeard l ≡ t)) ↔ S.Recorded freshAudit l a t
+pub carried : (l : List Heard) (a : Audit) (t : C.Trace)
+    → ((auditAfter freshAudit l ≡ a) × (traceHeard l ≡ t)) ↔ S.Recorded freshAudit l a t
 carried l a t = (
   λ e. rw (← (e .0), ← (e .1)) (recorded-on l S.nothing),
   λ g. let e = recorded-only g in (sym (e .0), sym (e .1)),
@@ -124,8 +131,8 @@ same-told m t f = (
   },
 )
 
-pub finds : {l : List Heard} {a : Audit} {t : C.Trace} → S.Recorded freshAudit l a t → (s : List ℕ) (y : Answer) (p : ℕ) → S.Shows (S.positionAfter t) y p
-    → S.Finds (S.moment s y p) t (auditOf a s y .findings)
+pub finds : {l : List Heard} {a : Audit} {t : C.Trace} → S.Recorded freshAudit l a t → (s : List ℕ) (y : Answer) (p : ℕ)
+    → S.Shows (S.positionAfter t) y p → S.Finds (S.moment s y p) t (auditOf a s y .findings)
 finds {l} {a} {t} g s y p h = rw (← moment-is t s y p h) (same-told _ t _ .0 (told-next a t (follows g) (S.heard s y)))
 
 -- ── At each record ──
@@ -140,7 +147,8 @@ record ToldAt (t : C.Trace) (l : List Heard) (fs : List Findings) : Type 0 where
 told-first : (t : C.Trace) (x z : Heard) (f g : Findings) → z ≡ x → g ≡ f → Told (heardAs t z) t g → Told (heardAs t x) t f
 told-first t x z f g e h k = rw (← e, ← h) k
 
-told-more : (t : C.Trace) (z : Heard) (l : List Heard) (g : Findings) (fs : List Findings) → Told (heardAs t z) t g → ToldAt (heardAs t z ∷ t) l fs
+told-more : (t : C.Trace) (z : Heard) (l : List Heard) (g : Findings) (fs : List Findings) → Told (heardAs t z) t g
+    → ToldAt (heardAs t z ∷ t) l fs
     → (front : List Heard) (x : Heard) (rest : List Heard) (before : List Findings) (f : Findings) (behind : List Findings)
     → z ∷ l ≡ front ++ (x ∷ rest) → g ∷ fs ≡ before ++ (f ∷ behind) → length before ≡ length front
     → Told (heardAs (traceFrom t front) x) (traceFrom t front) f
@@ -166,15 +174,16 @@ unfolding traceFrom
 at-told [] t [] k = tt
 at-told [] t (f ∷ fs) k = absurd (let n = k .as-many in omega arith)
 at-told (z ∷ l) t [] k = absurd (let n = k .as-many in omega arith)
-at-told (z ∷ l) t (g ∷ fs) k =
-    (k .each [] z l [] g fs refl refl refl,
-    at-told l (heardAs t z ∷ t) fs
-    record {
-      as-many = let n = k .as-many in omega arith;
-      each =
-          λ front x rest before f behind e h n.
-          k .each (z ∷ front) x rest (g ∷ before) f behind (ap (λ u. z ∷ u) e) (ap (λ u. g ∷ u) h) (ap suc n);
-    })
+at-told (z ∷ l) t (g ∷ fs) k = (
+  k .each [] z l [] g fs refl refl refl,
+  at-told l (heardAs t z ∷ t) fs
+      record {
+        as-many = let n = k .as-many in omega arith;
+        each =
+            λ front x rest before f behind e h n.
+            k .each (z ∷ front) x rest (g ∷ before) f behind (ap (λ u. z ∷ u) e) (ap (λ u. g ∷ u) h) (ap suc n);
+      },
+)
 
 pub same-tells : (l : List Heard) (fs : List Findings) → ToldFrom [] l fs ↔ S.FindsAll l fs
 same-tells l fs = (there, back)
@@ -198,7 +207,7 @@ same-tells l fs = (there, back)
           each =
               λ front x rest before f behind e h n.
               let t = traceHeard front in
-              let p = shownIn (C.positionAfter t) (x .answer) in
-              let sh : S.Shows (S.positionAfter t) (x .answer) p = rw (← same-before t) (shows-shown (C.positionAfter t) (x .answer)) in
-              same-told (heardAs t x) t f .1 (k .each front x rest before f behind e h n (auditAfter freshAudit front) t p (recorded-on front S.nothing) sh);
+              same-told (heardAs t x) t f .1
+              (k .each front x rest before f behind e h n (auditAfter freshAudit front) t _ (recorded-on front S.nothing)
+              (heard-shows t (x .answer)));
         }

@@ -1,6 +1,6 @@
 -- The page to read first. Each sentence of demand 3, of document 01's paragraph on it, and each finding of the audit is here a theorem for
 -- every trace, record or audit: on one side the product's definition, on the other the sentence as `Paper` says it a second time. What the
--- product says by splits of the trace stands there by places, by the clock or by a number; what it says by recursion stands there by splits.
+-- product says by splits of the trace stands there by places, by the clock or by a number, and what it says by recursion by splits.
 use mathlib.Core.Path.{_≡_, refl, _∙_}
 use mathlib.Core.Logic.{_↔_}
 use mathlib.Core.Bool.{Bool, true, false}
@@ -108,8 +108,8 @@ module _ (m : C.Moment) (t : C.Trace) where
   pub waiting : C.Waiting m t ↔ S.Waiting m t
   waiting = Holds.same-waiting m t
 
-  -- "Each tick moves the damper by Rate or the distance, the smaller, toward the target of the highest commander which the list makes active
-  -- then."
+  -- "Each tick moves the damper by Rate or the distance, the smaller, toward the target of the highest commander which the list makes
+  -- active then."
   pub move : C.Move m t ↔ S.Move m t
   move = Holds.same-moving m t
 
@@ -231,7 +231,8 @@ module _ (a : Audit) (s : List ℕ) (y : Answer) (w : P.WellFormed (a .drive)) w
   -- a tick without report, MinRepTime ticks or more after the latest report or restart, the tick counted, which leaves something new
   pub waiting-found : (f .waiting ≡ true)
       ↔ (S.TickOf (a .drive) s × (P.IsReport y → ⊥) × (P.MinRepTime (o .drive .params) ≤ P.oneMore (a .drive .since))
-      × S.New (o .drive .params) (o .drive .position) (statusOf (o .drive)) (a .drive .last .reported) (a .drive .last .position) (a .drive .last .status))
+      × S.New (o .drive .params) (o .drive .position) (statusOf (o .drive))
+      (a .drive .last .reported) (a .drive .last .position) (a .drive .last .status))
   waiting-found = Audits.waiting a s y formed-flag
 
   -- a tick that shows another position than the move from the one last shown
@@ -322,11 +323,13 @@ audit-fresh = Audits.fresh
 -- ── The audit of a recording ──
 
 -- the audit and the trace, record by record
-pub carried : (l : List Heard) (a : Audit) (t : C.Trace) → ((auditAfter freshAudit l ≡ a) × (traceHeard l ≡ t)) ↔ S.Recorded freshAudit l a t
+pub carried : (l : List Heard) (a : Audit) (t : C.Trace)
+    → ((auditAfter freshAudit l ≡ a) × (traceHeard l ≡ t)) ↔ S.Recorded freshAudit l a t
 carried l a t = Recordings.carried l a t
 
 pub findings : (l : List Heard) (x : Heard)
-    → findingsFrom freshAudit (l ++ (x ∷ [])) ≡ findingsFrom freshAudit l ++ (auditOf (auditAfter freshAudit l) (x .bytes) (x .answer) .findings ∷ [])
+    → findingsFrom freshAudit (l ++ (x ∷ []))
+    ≡ findingsFrom freshAudit l ++ (auditOf (auditAfter freshAudit l) (x .bytes) (x .answer) .findings ∷ [])
 findings l x = Recordings.findings-snoc l x freshAudit
 
 -- what is told of a list that a drive was given
@@ -342,6 +345,6 @@ pub told-from : (l : List Heard) (fs : List Findings) → ToldFrom [] l fs ↔ S
 told-from l fs = Recordings.same-tells l fs
 
 -- For every recording of any drive, each finding is true where its sentence fails, and only there.
-pub finds : (l : List Heard) (a : Audit) (t : C.Trace) → S.Recorded freshAudit l a t → (s : List ℕ) (y : Answer) (p : ℕ) → S.Shows (S.positionAfter t) y p
-    → S.Finds (S.moment s y p) t (auditOf a s y .findings)
+pub finds : (l : List Heard) (a : Audit) (t : C.Trace) → S.Recorded freshAudit l a t → (s : List ℕ) (y : Answer) (p : ℕ)
+    → S.Shows (S.positionAfter t) y p → S.Finds (S.moment s y p) t (auditOf a s y .findings)
 finds l a t g s y p h = Recordings.finds g s y p h

@@ -130,11 +130,13 @@ module _ (step : Step) (first : Drive) where
   unfolding outcomes driveAfter C.traceOn
   given-only S.nothing = (refl, refl)
   given-only (S.next {l = l} g s) =
-      let e = given-only g in
-      (ap (λ (x : Drive). step x s .drive) (e .0) ∙ sym (drive-snoc l s first),
-      (λ i. momentOf s (step (e .0 i) s) ∷ e .1 i) ∙ sym (trace-snoc l s first []))
+      let e = given-only g in (
+        ap (λ (x : Drive). step x s .drive) (e .0) ∙ sym (drive-snoc l s first),
+        (λ i. momentOf s (step (e .0 i) s) ∷ e .1 i) ∙ sym (trace-snoc l s first []),
+      )
 
-  pub given-trace : (l : List (List ℕ)) (t : C.Trace) → (C.traceOn [] l (outcomes step first l) ≡ t) ↔ ((d : Drive) × S.Given step first l d t)
+  pub given-trace : (l : List (List ℕ)) (t : C.Trace)
+      → (C.traceOn [] l (outcomes step first l) ≡ t) ↔ ((d : Drive) × S.Given step first l d t)
   given-trace l t = (λ e. (_, subst (S.Given step first l _) e (given-on l S.nothing)), λ g. sym (given-only (g .1) .1))
 
   pub given-drive : (l : List (List ℕ)) (d : Drive) (t : C.Trace) → S.Given step first l d t → driveAfter first (outcomes step first l) ≡ d
@@ -168,7 +170,8 @@ module _ (step : Step) (first : Drive) where
   recorded-on (s ∷ l) d t =
       sym (append-snoc (S.recording t) (S.heard s (step d s .answer)) _) ∙ recorded-on l (step d s .drive) (momentOf s (step d s) ∷ t)
 
-  pub same-recording : (l : List (List ℕ)) (d : Drive) (t : C.Trace) → S.Given step first l d t → recordingOf l (outcomes step first l) ≡ S.recording t
+  pub same-recording : (l : List (List ℕ)) (d : Drive) (t : C.Trace) → S.Given step first l d t
+      → recordingOf l (outcomes step first l) ≡ S.recording t
   same-recording l d t g = recorded-on l first [] ∙ ap S.recording (sym (given-only g .1))
 
 -- the log of a trace
