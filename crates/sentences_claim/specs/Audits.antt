@@ -8,24 +8,22 @@ use native.Mathlib.Omega.{arith}
 use lib.Dec.{leb, ltb, eqb}
 use lib.ListN.{getD}
 use borrow.Author.Tests.{ltb-true, ltb-false, eqb-true, eqb-false, eq-eqb}
-use Rattle.numbers.specs.Numbers.{pick, on, next}
+use Rattle.numbers.specs.Numbers.{pick, next}
 use Rattle.numbers.specs.Laws.{cases, and-left, and-right, and-intro}
 use Rattle.table.specs.Table.{minRepTime, rate}
 use Rattle.event.specs.Event.{eventIn, badKind, kindIn, recordRefusal}
 use Rattle.event.specs.Laws.{record-passed, admitted}
 use Rattle.motion.specs.Motion.{toward}
-use Rattle.rules.specs.Rank.{targets}
 use Rattle.rules.specs.RefusalLaws.{refusal-passed}
 use Rattle.answer.specs.declared.Answer.{Answer}
 use Rattle.answer.specs.declared.Answer.the-variants.{No, Done, Par, At, Tick, Report}
 use Rattle.answer.specs.Answer.{numberOf, isReport, wordOf, codeOf, answerOf}
 use Rattle.answer.specs.Laws.{Fits, answer-again}
 use Rattle.damper.specs.declared.Drive.{Drive}
-use Rattle.damper.specs.declared.Last.{Last}
 use Rattle.damper.specs.declared.Outcome.{Outcome}
 use Rattle.damper.specs.Record.{last, withPosition}
 use Rattle.damper.specs.WellFormed.{wellFormed}
-use Rattle.damper.specs.Tick.{advance, statusOf, due, dueWith, differsFrom}
+use Rattle.damper.specs.Tick.{advance, statusOf, dueWith, differsFrom}
 use Rattle.damper.specs.Step.{refusalOf, stepOf}
 use Rattle.invariant.specs.Effects as F
 use Rattle.invariant.specs.Kept as K
@@ -33,7 +31,7 @@ use Rattle.audit.specs.declared.Audit.{Audit}
 use Rattle.audit.specs.declared.Findings.{Findings}
 use Rattle.audit.specs.declared.Said.{Said}
 use Rattle.audit.specs.Audit.{freshAudit, saidIn, metBy, findingsOf, followed, auditOf}
-use Rattle.sentences.specs.Words.{choose, firstThatFits}
+use Rattle.sentences.specs.Words.{firstThatFits}
 use Rattle.sentences.specs.Fields as Fields
 use Rattle.sentences.specs.Fields.{_≔_, _with_, bare}
 use Rattle.sentences.specs.Paper as P
@@ -148,6 +146,10 @@ module _ (d : Drive) (p : ℕ) (w : wellFormed d ≡ true) where
   abbrev there : Drive
   there = withPosition d p
 
+  -- there is a target
+  pub some-target : (t : ℕ) × P.Target (d .commands) (d .run .kind) p (d .params) (P.ruling d) t
+  some-target = let k = some-tick there (same-formed there .0 (K.wf-position d w p)) in (k .0, k .3)
+
   pub tick-from : (t : ℕ) → P.Target (d .commands) (d .run .kind) p (d .params) (P.ruling d) t
       → advance there .drive .position ≡ toward p t (rate (d .params))
   tick-from t x =
@@ -165,6 +167,15 @@ next-is n =
     cases (ltb n 65535)
     (λ e. let h : n < 65535 = ltb-true _ _ e in rw e (omega arith))
     (λ e. let h : 65535 ≤ n = ltb-false _ _ e in rw e (omega arith))
+
+-- every count has one after a record
+pub some-count : (d : Drive) (s : List ℕ) (n : ℕ) → (k : ℕ) × S.Counted d s n k
+some-count d s n =
+    let z = firstThatFits (P.turnedDown d s) in
+    let t = both (eqb z 0) (eqb (getD s 2 0) 1) (equal z 0) (equal (getD s 2 0) 1) in
+    cases (eqb z 0 && eqb (getD s 2 0) 1)
+    (λ e. (P.oneMore n, S.one-more (t .0 e)))
+    (λ e. (n, S.as-before (unset _ t .0 e)))
 
 -- an equal flag says the same
 by : {b c : Bool} {X : Type 0} → b ≡ c → Says c X → Says b X
@@ -219,6 +230,23 @@ module _ (a : Audit) (s : List ℕ) (y : Answer) (w : wellFormed (a .drive) ≡ 
   pub is-restart : Says restart (S.RestartOf d s)
   unfolding metBy
   is-restart = same-kind d s w 9
+
+  pub met-drive : metBy a s .drive ≡ o .drive
+  unfolding metBy
+  met-drive = refl
+
+  pub met-number : metBy a s .number ≡ firstThatFits (P.turnedDown d s)
+  unfolding metBy
+  met-number = own-number d s w
+
+  pub met-reports : Says (metBy a s .reports) (P.IsReport (o .answer))
+  unfolding metBy
+  met-reports = same-reports 0 (o .answer)
+
+  pub met-moved : (t : ℕ) → P.Target (d .commands) (d .run .kind) (a .seen) (d .params) (P.ruling d) t
+      → P.Moved (a .seen) t (P.Rate (d .params)) (metBy a s .moved)
+  unfolding metBy
+  met-moved t aim = moved-is (a .seen) t (rate (d .params)) _ .0 (tick-from d (a .seen) w t aim)
 
   heard : Says (x .reports) (P.IsReport y)
   heard = same-reports (a .seen) y

@@ -1,7 +1,7 @@
 -- Proofs: ticks by the clock, stretches without restart and report, the ticks since and the last report.
 use mathlib.Core.Path.{_≡_, refl, sym, ap, subst, _∙_}
 use mathlib.Core.Logic.{_↔_}
-use mathlib.Core.Bool.{Bool, true, false, _||_, or-true, false≢true}
+use mathlib.Core.Bool.{Bool, true, false, _||_, or-true}
 use mathlib.Core.List.{List, [], _∷_, _++_, append-nil, nil≢cons}
 use Prim.Native.Nat.{ℕ, zero, suc, _+_}
 use native.Mathlib.Omega.{arith}
@@ -16,7 +16,7 @@ use Rattle.history.specs.Claim as C
 use Rattle.history.specs.Waits.{silent-in}
 use Rattle.sentences.specs.Shows.{one}
 use Rattle.sentences_claim.specs.Paper as S
-use Rattle.sentences_claim.specs.Tests.{unset, same-tick, same-restart, reports, report-gives, gives-in, gives-report}
+use Rattle.sentences_claim.specs.Tests.{unset, same-restart, reports, report-gives, gives-in}
 
 -- ── The clock ──
 

@@ -1,7 +1,7 @@
 -- Proofs: each sentence of demand 3 at one record of a trace.
 use mathlib.Core.Path.{_≡_, refl, sym, ap, subst, _∙_}
 use mathlib.Core.Logic.{_↔_}
-use mathlib.Core.Bool.{Bool, true, false, not, _||_, false≢true}
+use mathlib.Core.Bool.{Bool, true, false, false≢true}
 use mathlib.Core.List.{List, [], _∷_, _++_}
 use Prim.Native.Nat.{ℕ, _+_, _≤_, min}
 use native.Mathlib.Omega.{arith}
@@ -43,7 +43,7 @@ use Rattle.sentences_claim.specs.Paper as S
 use Rattle.sentences_claim.specs.Tests.{Says, unset, same-flags, same-tick, same-restart, no-restart, reports, same-before}
 use Rattle.sentences_claim.specs.Tests.{events-are, events-only, report-gives, gives-report, gives-in, same-number, number-one}
 use Rattle.sentences_claim.specs.Tests.{new-flag}
-use Rattle.sentences_claim.specs.Counts.{clock-more, ticks-clock, since-is, since-only, last-only, some-last, sentOf}
+use Rattle.sentences_claim.specs.Counts.{ticks-clock, since-is, since-only, last-only, some-last, sentOf}
 
 -- ── MinRepTime is from 1 to 3,600 after every trace ──
 

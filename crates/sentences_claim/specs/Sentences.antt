@@ -1,9 +1,9 @@
 -- The page to read first. Each sentence of demand 3, of document 01's paragraph on it, and each finding of the audit is here a theorem for
 -- every trace, record or audit: on one side the product's definition, on the other the sentence as `Paper` says it a second time. What the
 -- product says by splits of the trace stands there by places, by the clock or by a number, and what it says by recursion by splits.
-use mathlib.Core.Path.{_≡_, refl, _∙_}
+use mathlib.Core.Path.{_≡_}
 use mathlib.Core.Logic.{_↔_}
-use mathlib.Core.Bool.{Bool, true, false}
+use mathlib.Core.Bool.{true}
 use mathlib.Core.List.{List, [], _∷_, _++_, map}
 use Prim.Native.Nat.{ℕ, suc, _+_, _<_, _≤_}
 use lib.ListN.{length, drop}
@@ -11,7 +11,6 @@ use Rattle.event.specs.declared.Event.{Event}
 use Rattle.rules.specs.Report.{silent, sent}
 use Rattle.answer.specs.declared.Answer.{Answer}
 use Rattle.answer.specs.Laws.{Fits}
-use Rattle.answer.specs.Answer.{numberOf}
 use Rattle.damper.specs.declared.Drive.{Drive}
 use Rattle.damper.specs.declared.Outcome.{Outcome}
 use Rattle.damper.specs.WellFormed.{wellFormed}
@@ -22,18 +21,15 @@ use Rattle.damper.specs.Step.{stepOf}
 use Rattle.history.specs.Readings as R
 use Rattle.history.specs.Log as Log
 use Rattle.history.specs.Claim as C
-use Rattle.history.specs.Theorem as Theorem
-use Rattle.history.specs.LogLaws as LogLaws
 use Rattle.audit.specs.declared.Audit.{Audit}
 use Rattle.audit.specs.declared.Findings.{Findings}
-use Rattle.audit.specs.Audit.{freshAudit, saidIn, auditOf}
+use Rattle.audit.specs.Audit.{freshAudit, saidIn, metBy, auditOf}
 use Rattle.recording.specs.Recording.{Heard, recordingOf, traceHeard, Told, ToldFrom, findingsFrom, auditAfter}
 use Rattle.sentences.specs.Words.{firstThatFits}
 use Rattle.sentences.specs.Fields as F
 use Rattle.sentences.specs.Fields.{_≔_, _with_, bare}
 use Rattle.sentences.specs.Paper as P
 use Rattle.sentences.specs.Forms as Forms
-use Rattle.sentences.specs.Events as Events
 use Rattle.sentences_claim.specs.Paper as S
 use Rattle.sentences_claim.specs.Tests as Tests
 use Rattle.sentences_claim.specs.Counts as Counts
@@ -209,8 +205,15 @@ said-reports p y = Audits.same-reports p y
 pub said-status : (p : ℕ) (y : Answer) (q s : ℕ) → S.Gives y q s → saidIn p y .status ≡ s
 said-status p y q s g = Audits.gives-said p g .1
 
+-- every count of ticks has one after a record, and every tick from a position a target, so that what follows says something
+pub some-count : (d : Drive) (s : List ℕ) (n : ℕ) → (k : ℕ) × S.Counted d s n k
+some-count d s n = Audits.some-count d s n
+
+pub some-target : (d : Drive) (p : ℕ) → P.WellFormed d → (t : ℕ) × P.Target (d .commands) (d .run .kind) p (d .params) (P.ruling d) t
+some-target d p w = Audits.some-target d p (Forms.same-formed d .1 w)
+
 module _ (a : Audit) (s : List ℕ) (y : Answer) (w : P.WellFormed (a .drive)) where
-  -- what document 01's drive makes of the record
+  -- the step of document 01's drive
   abbrev o : Outcome
   o = stepOf (a .drive) s
 
@@ -222,6 +225,27 @@ module _ (a : Audit) (s : List ℕ) (y : Answer) (w : P.WellFormed (a .drive)) w
 
   formed-flag : wellFormed (a .drive) ≡ true
   formed-flag = Forms.same-formed (a .drive) .1 w
+
+  -- what document 01's drive makes of the record: an accepted tick or restart, the refusal, a report, and the move of a tick from the
+  -- position last shown
+  pub met-tick : (metBy a s .tick ≡ true) ↔ S.TickOf (a .drive) s
+  met-tick = Audits.is-tick a s y formed-flag
+
+  pub met-restart : (metBy a s .restart ≡ true) ↔ S.RestartOf (a .drive) s
+  met-restart = Audits.is-restart a s y formed-flag
+
+  pub met-drive : metBy a s .drive ≡ o .drive
+  met-drive = Audits.met-drive a s y formed-flag
+
+  pub met-number : metBy a s .number ≡ firstThatFits (P.turnedDown (a .drive) s)
+  met-number = Audits.met-number a s y formed-flag
+
+  pub met-reports : (metBy a s .reports ≡ true) ↔ P.IsReport (o .answer)
+  met-reports = Audits.met-reports a s y formed-flag
+
+  pub met-moved : (t : ℕ) → P.Target (a .drive .commands) (a .drive .run .kind) (a .seen) (a .drive .params) (P.ruling (a .drive)) t
+      → P.Moved (a .seen) t (P.Rate (a .drive .params)) (metBy a s .moved)
+  met-moved t x = Audits.met-moved a s y formed-flag t x
 
   -- a report fewer than MinRepTime ticks after the latest one, the record counted
   pub spacing-found : (n : ℕ) → S.Counted (a .drive) s (a .apart) n

@@ -10,7 +10,6 @@ use lib.ListN.{getD}
 use borrow.Author.Tests.{leb-true, le-leb, ltb-true, lt-ltb, eqb-true, eqb-false, eq-eqb, ne-eqb}
 use Rattle.numbers.specs.Laws.{cases, and-left, and-right, and-intro}
 use Rattle.event.specs.declared.Event.{Event}
-use Rattle.event.specs.Event.{eventIn}
 use Rattle.rules.specs.Report.{changed, silent, sent}
 use Rattle.answer.specs.declared.Answer.{Answer}
 use Rattle.answer.specs.declared.Answer.the-variants.{No, Done, Par, At, Tick, Report}
