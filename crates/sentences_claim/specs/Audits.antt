@@ -95,6 +95,14 @@ gives-said p (S.report q r m s) = (refl, refl)
 said-gives : (p : ℕ) (y : Answer) → P.IsReport y → S.Gives y (saidIn p y .position) (saidIn p y .status)
 said-gives p y (P.tick-with-status q r m s) = S.report q r m s
 
+pub none-said : (p : ℕ) (y : Answer) → (P.IsReport y → ⊥) → saidIn p y .status ≡ 0
+none-said p (No n) h = refl
+none-said p Done h = refl
+none-said p (Par v) h = refl
+none-said p (At q c s) h = refl
+none-said p (Tick q r m) h = refl
+none-said p (Report q r m s) h = absurd (h (P.tick-with-status q r m s))
+
 -- ── What the drive makes of a record ──
 
 module _ (d : Drive) (s : List ℕ) (w : wellFormed d ≡ true) where

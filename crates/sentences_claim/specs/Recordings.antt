@@ -83,6 +83,10 @@ carried l a t = (
   λ g. let e = recorded-only g in (sym (e .0), sym (e .1)),
 )
 
+pub findings-none : (a : Audit) → findingsFrom a [] ≡ []
+unfolding findingsFrom
+findings-none a = refl
+
 pub findings-snoc : (l : List Heard) (x : Heard) (a : Audit)
     → findingsFrom a (l ++ (x ∷ [])) ≡ findingsFrom a l ++ (auditOf (auditAfter a l) (x .bytes) (x .answer) .findings ∷ [])
 unfolding findingsFrom auditAfter

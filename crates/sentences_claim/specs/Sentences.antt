@@ -174,6 +174,11 @@ trace-on first l os t n = Traces.same-traced first l os t n
 pub trace-of : (step : Step) (l : List (List ℕ)) (t : C.Trace) → (C.traceOf step l ≡ t) ↔ ((d : Drive) × S.Given step freshDrive l d t)
 trace-of step l t = Traces.given-trace step freshDrive l t
 
+-- the list of accepted events
+pub history-of : (step : Step) (l : List (List ℕ)) (d : Drive) (t : C.Trace) (h : List Event) → S.Given step freshDrive l d t
+    → (R.historyOf l ≡ h) ↔ S.Events t h
+history-of step l d t h g = Traces.given-events step freshDrive l d t h g
+
 pub drive-after : (step : Step) (l : List (List ℕ)) (d : Drive) (t : C.Trace) → S.Given step freshDrive l d t
     → driveAfter freshDrive (outcomes step freshDrive l) ≡ d
 drive-after step l d t g = Traces.given-drive step freshDrive l d t g
@@ -204,6 +209,9 @@ said-reports p y = Audits.same-reports p y
 
 pub said-status : (p : ℕ) (y : Answer) (q s : ℕ) → S.Gives y q s → saidIn p y .status ≡ s
 said-status p y q s g = Audits.gives-said p g .1
+
+pub said-no-status : (p : ℕ) (y : Answer) → (P.IsReport y → ⊥) → saidIn p y .status ≡ 0
+said-no-status p y h = Audits.none-said p y h
 
 -- every count of ticks has one after a record, and every tick from a position a target, so that what follows says something
 pub some-count : (d : Drive) (s : List ℕ) (n : ℕ) → (k : ℕ) × S.Counted d s n k
@@ -350,6 +358,9 @@ audit-fresh = Audits.fresh
 pub carried : (l : List Heard) (a : Audit) (t : C.Trace)
     → ((auditAfter freshAudit l ≡ a) × (traceHeard l ≡ t)) ↔ S.Recorded freshAudit l a t
 carried l a t = Recordings.carried l a t
+
+pub no-findings : findingsFrom freshAudit [] ≡ []
+no-findings = Recordings.findings-none freshAudit
 
 pub findings : (l : List Heard) (x : Heard)
     → findingsFrom freshAudit (l ++ (x ∷ []))

@@ -8,21 +8,25 @@ use native.Mathlib.Numerals.{add-one}
 use lib.ListN.{length, drop, length-append}
 use lib.Seq.{drop-nil, drop-drop, append-snoc}
 use Rattle.numbers.specs.Laws.{cases}
+use Rattle.event.specs.declared.Event.{Event}
 use Rattle.damper.specs.declared.Drive.{Drive}
 use Rattle.damper.specs.declared.Outcome.{Outcome}
 use Rattle.damper.specs.Record.{freshDrive}
 use Rattle.damper.specs.Step.{stepOf}
 use Rattle.damper.specs.Carry.{Step, outcomes, driveAfter}
+use Rattle.history.specs.Readings.{historyOf}
 use Rattle.history.specs.Log.{Entry, entry, logIn}
+use Rattle.damper.specs.CarryLaws.{outcomes-length}
 use Rattle.history.specs.Claim as C
 use Rattle.history.specs.Claim.{momentOf}
 use Rattle.history.specs.Waits.{silent-in}
 use Rattle.history.specs.Theorem.{demand-3}
+use Rattle.history.specs.Standing.{accepted-read}
 use Rattle.history.specs.LogLaws.{log-read}
 use Rattle.recording.specs.Recording.{recordingOf}
 use Rattle.sentences.specs.Paper as P
 use Rattle.sentences_claim.specs.Paper as S
-use Rattle.sentences_claim.specs.Tests.{unset, reports, report-gives, gives-in}
+use Rattle.sentences_claim.specs.Tests.{unset, reports, report-gives, gives-in, same-events}
 use Rattle.sentences_claim.specs.Counts.{head-eq, tail-eq}
 use Rattle.sentences_claim.specs.Holds.{same-holds, same-hall-holds}
 
@@ -139,6 +143,16 @@ module _ (step : Step) (first : Drive) where
 
   pub given-drive : (l : List (List ℕ)) (d : Drive) (t : C.Trace) → S.Given step first l d t → driveAfter first (outcomes step first l) ≡ d
   given-drive l d t g = sym (given-only g .0)
+
+  -- the accepted events of the list
+  pub given-events : (l : List (List ℕ)) (d : Drive) (t : C.Trace) (h : List Event) → S.Given step first l d t
+      → (historyOf l ≡ h) ↔ S.Events t h
+  unfolding C.accepted
+  given-events l d t h g =
+      let read = accepted-read l (outcomes step first l) [] (outcomes-length step first l) in
+      let e : C.accepted t ≡ historyOf l = ap C.accepted (given-only g .1) ∙ read in
+      let k = same-events t h in
+      (λ q. k .0 (e ∙ q), λ x. sym e ∙ k .1 x)
 
   -- ── The log ──
 
