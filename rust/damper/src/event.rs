@@ -49,8 +49,8 @@ pub enum Command {
 }
 
 impl Event {
-    /// An LTE setpoint by the property that belongs to that DamperMode, 1 to 4. With any other number it is an event
-    /// that is refused, by [`Refusal::Value`].
+    /// An LTE setpoint by the property that belongs to that DamperMode, 1 to 4. By any other number it is an
+    /// event that is refused, by [`Refusal::Value`].
     ///
     /// ```
     /// use damper::{Command, Event, Refusal};
@@ -239,7 +239,8 @@ mod tests {
         }
     }
 
-    /// A mode that is none gives an event that the writer and the drive refuse, also where its lower byte is a mode.
+    /// A mode that is none gives an event that the writer and the drive refuse, also where its lower byte is
+    /// one.
     #[test]
     fn by_no_mode() {
         for mode in 0..=u16::MAX {
