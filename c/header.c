@@ -274,8 +274,12 @@ static void refusals(damper_drive fresh)
     CHECK(refusal(fresh, DAMPER_KIND_FORCING, DAMPER_FORCING_TO_255 + 1, 0, 0) == DAMPER_REFUSAL_SELECTOR);
 
     unsigned lte = DAMPER_KIND_LTE_SETPOINT, property = DAMPER_LTE_PROPERTY(1);
-    CHECK(refusal(fresh, lte, DAMPER_LTE_PROPERTY(0), 0, DAMPER_LTE_WRITE) == DAMPER_REFUSAL_SELECTOR);
+    for (unsigned mode = 0; mode <= 65536; mode++) /* whole, and not its lower byte */
+        CHECK(mode - 1 < 4 ? DAMPER_LTE_PROPERTY(mode) == 50 + (int)mode : DAMPER_LTE_PROPERTY(mode) == 0);
+    CHECK(DAMPER_LTE_PROPERTY(-255) == 0 && DAMPER_LTE_PROPERTY(UINT64_C(1) << 32 | 1) == 0);
     CHECK(refusal(fresh, lte, DAMPER_LTE_PROPERTY(5), 0, DAMPER_LTE_WRITE) == DAMPER_REFUSAL_SELECTOR);
+    for (unsigned a = 0; a < 256; a++)
+        CHECK((refusal(fresh, lte, a, 0, DAMPER_LTE_RELEASE) == DAMPER_REFUSAL_SELECTOR) == (a < 51 || a > 54));
     CHECK(refusal(fresh, lte, property, 0, DAMPER_LTE_RELEASE + 1) == DAMPER_REFUSAL_COMMAND);
     CHECK(refusal(fresh, lte, property, 101, DAMPER_LTE_OVERRIDE) == DAMPER_REFUSAL_PERCENT);
     CHECK(refusal(fresh, lte, DAMPER_LTE_PROPERTY(4), 0, DAMPER_LTE_WRITE) == DAMPER_REFUSAL_PROPERTY);
@@ -335,7 +339,106 @@ static void percents(damper_drive fresh)
     }
 }
 
-/* What the helpers take from each word's answer; all four values of a report differ. */
+/*
+ * The twelve inline functions of the header, which stand between what is proved and a host's log: each against the definitions, written
+ * here again as tables, `valuesOf`, `wordOf`, `codeOf` (crates/answer/specs/Answer.antt) and `tickNumber` (crates/hall/specs/Hall.antt).
+ */
+
+/* The values that a printed line has after its word, and which of them are there in the answers of each word, in order. */
+enum field { REFUSAL, VALUE, POSITION, PERCENT, STATUS, RANK, MOTOR, FIELDS };
+
+static const struct {
+    size_t count;
+    enum field values[4];
+} lines[6] = {
+    {1, {REFUSAL, FIELDS, FIELDS, FIELDS}},   /* 0: no N */
+    {0, {FIELDS, FIELDS, FIELDS, FIELDS}},    /* 1: ok */
+    {1, {VALUE, FIELDS, FIELDS, FIELDS}},     /* 2: par V */
+    {3, {POSITION, PERCENT, STATUS, FIELDS}}, /* 3: at P C S */
+    {3, {POSITION, RANK, MOTOR, FIELDS}},     /* 4: tick P R M - */
+    {4, {POSITION, RANK, MOTOR, STATUS}},     /* 5: tick P R M S */
+};
+
+/* Whether the nine functions of an answer say this word and these values, and 0 for those that its line does not have. */
+static bool decoded(uint8_t word, uint32_t code, const unsigned due[FIELDS])
+{
+    return damper_answer_refusal(word, code) == due[REFUSAL] && damper_answer_value(word, code) == due[VALUE] &&
+           damper_answer_position(word, code) == due[POSITION] && damper_answer_percent(word, code) == due[PERCENT] &&
+           damper_answer_status(word, code) == due[STATUS] && damper_answer_rank(word, code) == due[RANK] &&
+           damper_answer_motor(word, code) == due[MOTOR] && damper_is_tick(word) == (word == 4 || word == 5) &&
+           damper_is_report(word) == (word == 5);
+}
+
+/* The same of the answer of a word with these values, whose code has each but the first as a digit of base 256 behind the one before. */
+static bool told(uint8_t word, const unsigned values[4])
+{
+    unsigned due[FIELDS] = {0, 0, 0, 0, 0, 0, 0};
+    uint32_t code = 0;
+    for (size_t i = 0; i < lines[word].count; i++) {
+        code = 256 * code + values[i];
+        due[lines[word].values[i]] = values[i];
+    }
+    return decoded(word, code, due);
+}
+
+/* Every answer of words 0 to 4, and of word 5 every two of the four values with the others at some. */
+static void decoders(void)
+{
+    unsigned v[4] = {0, 0, 0, 0};
+    CHECK(told(1, v));
+    for (v[0] = 0; v[0] < 256; v[0]++)
+        CHECK(told(0, v));
+    for (v[0] = 0; v[0] < 65536; v[0]++)
+        CHECK(told(2, v));
+    for (v[0] = 0; v[0] < 256; v[0]++) {
+        bool all = true;
+        for (v[1] = 0; v[1] < 256; v[1]++)
+            for (v[2] = 0; v[2] < 256; v[2]++)
+                all = all && told(3, v) && told(4, v);
+        CHECK(all);
+    }
+    static const unsigned some[] = {0, 1, 90, 254, 255};
+    const size_t many = sizeof some / sizeof some[0];
+    for (size_t i = 0; i < 4; i++)
+        for (size_t k = i + 1; k < 4; k++)
+            for (size_t other = 0; other < many * many; other++) {
+                bool all = true;
+                const size_t first = i == 0 ? (k == 1 ? 2 : 1) : 0, second = 6 - i - k - first;
+                v[first] = some[other / many];
+                v[second] = some[other % many];
+                for (v[i] = 0; v[i] < 256; v[i]++)
+                    for (v[k] = 0; v[k] < 256; v[k]++)
+                        all = all && told(5, v);
+                CHECK(all);
+            }
+    uint32_t drawn = 1; /* a fixed sequence that has every number but 0 */
+    bool all = true;
+    for (unsigned i = 0; i < 2000000; i++) {
+        drawn ^= drawn << 13;
+        drawn ^= drawn >> 17;
+        drawn ^= drawn << 5;
+        for (size_t k = 0; k < 4; k++)
+            v[k] = drawn >> 8 * k & 255;
+        all = all && told(5, v);
+    }
+    CHECK(all);
+
+    /* The other words belong to no answer: nothing is taken from them. */
+    const unsigned nothing[FIELDS] = {0, 0, 0, 0, 0, 0, 0};
+    for (unsigned word = 6; word < 256; word++)
+        CHECK(decoded((uint8_t)word, 0, nothing) && decoded((uint8_t)word, UINT32_MAX, nothing));
+
+    /* The numbers of a hall tick: 0 silent, 1 not well formed, the others a report. */
+    for (uint32_t number = 0; number < 2; number++)
+        CHECK(!damper_hall_is_report(number) && damper_hall_position(number) == 0 && damper_hall_status(number) == 0);
+    for (unsigned position = 0; position < 256; position++)
+        for (unsigned given = 0; given < 256; given++) {
+            const uint32_t number = 65536 + 256 * position + given;
+            CHECK(damper_hall_is_report(number) && damper_hall_position(number) == position && damper_hall_status(number) == given);
+        }
+}
+
+/* What they take from the answers of the archive; all four values of a report differ. */
 static void answers(damper_drive fresh)
 {
     damper_drive d = after(fresh, DAMPER_KIND_HAND, 1, 100, 0);
@@ -947,6 +1050,7 @@ int main(void)
     parameters(fresh);
     refusals(fresh);
     ranks_and_status(fresh);
+    decoders();
     answers(fresh);
     percents(fresh);
     reader_and_writer();

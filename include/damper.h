@@ -76,8 +76,11 @@ enum damper_kind {
     DAMPER_KIND_READ_PARAMETER = 11  /* a: number; changes nothing */
 };
 
-/* Byte a of DAMPER_KIND_LTE_SETPOINT: the property that belongs to DamperMode 1 to 4, which is 51 to 54. */
-#define DAMPER_LTE_PROPERTY(mode) (50 + (mode))
+/*
+ * Byte a of DAMPER_KIND_LTE_SETPOINT: the property that belongs to DamperMode 1 to 4, which is 51 to 54. Of any other number,
+ * 257 among them, it is 0, which belongs to none and is refused by 6. The number is evaluated more than once.
+ */
+#define DAMPER_LTE_PROPERTY(mode) ((mode) >= 1 && (mode) <= 4 ? 50 + (int)(mode) : 0)
 
 /* Byte c of DAMPER_KIND_LTE_SETPOINT. */
 enum damper_lte {

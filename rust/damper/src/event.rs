@@ -49,16 +49,22 @@ pub enum Command {
 }
 
 impl Event {
-    /// An LTE setpoint by the property that belongs to that DamperMode, 1 to 4.
+    /// An LTE setpoint by the property that belongs to that DamperMode, 1 to 4. By any other number it is an
+    /// event that is refused, by [`Refusal::Value`].
     ///
     /// ```
-    /// use damper::{Command, Event};
+    /// use damper::{Command, Event, Refusal};
     ///
     /// let release = Event::Lte { property: 52, command: Command::Release };
     /// assert_eq!(Event::lte(2, Command::Release), release);
+    /// assert_eq!(Event::lte(257, Command::Release).to_bytes(), Err(Refusal::Value));
     /// ```
     pub const fn lte(mode: u16, command: Command) -> Event {
-        Event::Lte { property: 50u8.wrapping_add(mode as u8), command }
+        let property = match mode.saturating_add(50).to_be_bytes() {
+            [0, property] => property,
+            _ => u8::MAX,
+        };
+        Event::Lte { property, command }
     }
 
     /// The six bytes, by the proved writer. An event of this type is refused only for its plain numbers: by
@@ -230,6 +236,18 @@ mod tests {
                 let answer = drive.give(Event::lte(mode, Command::Override(50)));
                 assert_eq!(answer == Answer::Done, mode == written);
             }
+        }
+    }
+
+    /// A mode that is none gives an event that the writer and the drive refuse, also where its lower byte is
+    /// one.
+    #[test]
+    fn by_no_mode() {
+        for mode in 0..=u16::MAX {
+            let is_mode = Parameter::DamperMode.range().contains(&mode);
+            let event = Event::lte(mode, Command::Write(50));
+            assert_eq!(event.to_bytes().err(), (!is_mode).then_some(Refusal::Value), "{mode}");
+            assert_eq!(Drive::fresh().give(event) == Answer::Done, mode == 1, "{mode}");
         }
     }
 

@@ -31,6 +31,8 @@
 
 #![no_std]
 #![warn(missing_docs)]
+// No number of a caller is cut before it is judged.
+#![cfg_attr(not(test), warn(clippy::cast_possible_truncation))]
 
 #[cfg(not(target_arch = "x86_64"))]
 compile_error!("the archives of the proved drive are for x86-64");

@@ -79,13 +79,13 @@ pub fn parse(line: &[u8], count: usize) -> Result<Said, Wrong> {
     let mut words = Words { line, at: 0 };
     let (column, word) = words.clone().word();
     let due = format!("the count {count}");
-    if words.number(&due, u64::MAX)? != count as u64 {
+    if words.number::<u64>(&due, u64::MAX)? != count as u64 {
         return Err(Wrong { column, text: format!("{due} is due, not {}", shown(word)) });
     }
     let said = match words.word() {
         (_, b"ok") => Said::Done,
         (_, b"no") => Said::Refused(words.byte("a refusal's number")?),
-        (_, b"par") => Said::Parameter(words.number("a parameter's value", u16::MAX.into())? as u16),
+        (_, b"par") => Said::Parameter(words.number("a parameter's value", u16::MAX.into())?),
         (_, b"at") => Said::Position {
             position: words.byte("a position")?,
             percent: words.byte("a percent")?,
@@ -129,18 +129,20 @@ impl<'l> Words<'l> {
         (self.at - length + 1, &rest[blanks..blanks + length])
     }
 
-    fn number(&mut self, what: &str, most: u64) -> Result<u64, Wrong> {
+    fn number<N: TryFrom<u64>>(&mut self, what: &str, most: u64) -> Result<N, Wrong> {
         let (column, word) = self.word();
         let digits = !word.is_empty() && word.iter().all(u8::is_ascii_digit);
-        let number = std::str::from_utf8(word).ok().filter(|_| digits).and_then(|word| word.parse().ok());
-        number.filter(|number| *number <= most).ok_or_else(|| {
+        let number: Option<u64> =
+            std::str::from_utf8(word).ok().filter(|_| digits).and_then(|word| word.parse().ok());
+        let number = number.filter(|number| *number <= most).and_then(|number| number.try_into().ok());
+        number.ok_or_else(|| {
             let range = if most == u64::MAX { String::new() } else { format!(", 0 to {most},") };
             Wrong { column, text: format!("{what}{range} is due, not {}", shown(word)) }
         })
     }
 
     fn byte(&mut self, what: &str) -> Result<u8, Wrong> {
-        Ok(self.number(what, u8::MAX.into())? as u8)
+        self.number(what, u8::MAX.into())
     }
 
     /// A status, or `-` for none.

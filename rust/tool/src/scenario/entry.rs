@@ -61,7 +61,7 @@ pub fn parse(line: &mut Line, mode: u16) -> Result<Entry, Wrong> {
         "fault" => Event::Fault(on(line)?),
         "write" => {
             let parameter = parameter(line)?;
-            Event::WriteParameter(parameter, line.number("a value", 0..=u16::MAX.into())? as u16)
+            Event::WriteParameter(parameter, line.number("a value", 0..=u16::MAX)?)
         }
         "restart" => Event::Restart,
         "read" if line.is_empty() => Event::ReadPosition,
@@ -128,9 +128,7 @@ fn in_mode(line: &mut Line, mode: u16, instead: &str) -> Result<u16, Wrong> {
     if !word.text.eq_ignore_ascii_case("mode") {
         return Err(word.is_not("`mode`"));
     }
-    let range = Parameter::DamperMode.range();
-    let mode = line.number("a DamperMode", u32::from(*range.start())..=u32::from(*range.end()))?;
-    Ok(mode as u16)
+    line.number("a DamperMode", Parameter::DamperMode.range())
 }
 
 /// `on` or `off`.

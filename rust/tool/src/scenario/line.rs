@@ -2,6 +2,7 @@
 
 use crate::lines::Wrong;
 use crate::nearest::nearest;
+use std::fmt::Display;
 use std::ops::RangeInclusive;
 use std::str;
 
@@ -63,9 +64,14 @@ impl<'l> Line<'l> {
         Err(word.is_not("the end of the line"))
     }
 
-    pub fn number(&mut self, what: &str, range: RangeInclusive<u32>) -> Result<u32, Wrong> {
+    pub fn number<N: TryFrom<u32> + PartialOrd + Display>(
+        &mut self,
+        what: &str,
+        range: RangeInclusive<N>,
+    ) -> Result<N, Wrong> {
         let word = self.word();
         word.number()
+            .and_then(|number| number.try_into().ok())
             .filter(|number| range.contains(number))
             .ok_or_else(|| word.is_not(&format!("{what}, {} to {},", range.start(), range.end())))
     }
