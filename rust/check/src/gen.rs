@@ -8,6 +8,7 @@
 use crate::event::{Event, MARK};
 use crate::flag::Flag;
 use crate::model::{percent_to_position, Model};
+use crate::percents::ruled_by_backup_value;
 use crate::subject::Subject;
 use crate::table::{Param, TABLE};
 use damper::{Drive, Last};
@@ -219,7 +220,7 @@ impl Gen {
         if record.commands.stored == 1 && record.age > timeout && self.rng.once_in(8) {
             return self.revival(record);
         }
-        if left_to_backup_value(record) && self.rng.once_in(5) {
+        if ruled_by_backup_value(record) && self.rng.once_in(5) {
             return self.backup_value(record);
         }
         match self.rng.below(100) {
@@ -579,14 +580,6 @@ impl Gen {
             }
         }
     }
-}
-
-/// BackupValue rules.
-fn left_to_backup_value(record: &Drive) -> bool {
-    let c = record.commands;
-    let bus_active = c.stored == 1 && record.age <= record.params[Param::Timeout as usize];
-    let others = c.fault == 1 || c.forcing > 1 || record.run.kind != 0 || c.hand == 1 || c.tool == 1;
-    !others && !bus_active && record.params[Param::BackupMode as usize] == 0
 }
 
 /// Takes the commands and the run away, so that BackupValue rules.
