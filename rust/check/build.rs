@@ -58,9 +58,8 @@ fn edited(source: &str, edits: &[Edit], wordings: bool, target: &str) {
     let right = fs::read_to_string(source).unwrap();
     let mut text = String::new();
     if wordings {
-        let entry = |Edit { name, .. }: &Edit| {
-            format!("Wording {{ name: {name:?}, broken: {name}::broken }},\n")
-        };
+        let entry =
+            |Edit { name, .. }: &Edit| format!("Wording {{ name: {name:?}, broken: {name}::broken }},\n");
         let entries: String = edits.iter().map(entry).collect();
         writeln!(text, "pub const EDITED: &[Wording] = &[\n{entries}];").unwrap();
     }

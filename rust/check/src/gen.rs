@@ -248,13 +248,15 @@ impl Gen {
     /// As many ticks as bring a count about its limit.
     fn burst_length(&mut self, record: &Drive) -> u32 {
         let p = |param| record.params[param as usize];
-        let missing = match self.rng.below(8) {
+        let missing = match self.rng.below(10) {
             0 | 1 => p(Param::MinRepTime).saturating_sub(record.since),
             2 => p(Param::RepPer).saturating_sub(record.since),
             3 | 4 => p(Param::Timeout).saturating_sub(record.age),
             5 => u16::from(record.run.left),
             6 => self.rng.between(1, 70),
-            _ => self.rng.between(1, 8),
+            7 => self.rng.between(1, 8),
+            // K, which the damper gets there by.
+            _ => 255u16.div_ceil(p(Param::Rate).max(1)) + 1,
         };
         let length = (u32::from(missing) + self.rng.below(4)).saturating_sub(2);
         if length > 300 && !self.rng.once_in(8) {
@@ -286,7 +288,7 @@ impl Gen {
     }
 
     fn percent(&mut self) -> u8 {
-        match self.rng.below(14) {
+        match self.rng.below(24) {
             _ if self.grid => self.rng.pick(&GRID_PERCENTS),
             0..3 => self.rng.pick(&GRID_PERCENTS),
             3 | 4 => self.rng.pick(&HALVES),

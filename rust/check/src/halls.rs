@@ -164,7 +164,12 @@ impl<'h, H: Hall + ?Sized> Pair<'h, H> {
     }
 
     /// Whether a drive breaks W-207 by what each got, and whether it was refused there.
-    fn unsettled(&mut self, before: &[Drive], given: &[(Given, bool)], cover: Option<&mut HallCover>) -> bool {
+    fn unsettled(
+        &mut self,
+        before: &[Drive],
+        given: &[(Given, bool)],
+        cover: Option<&mut HallCover>,
+    ) -> bool {
         let mut broken = false;
         let mut cover = cover.map(|cover| &mut cover.settling);
         let after = &self.tested[lent(self.drives)];

@@ -4,9 +4,12 @@ use crate::model::percent_to_position;
 use crate::table::Param;
 use damper::Drive;
 
+/// Of a percent to a position.
+pub type Conversion = fn(u8) -> u8;
+
 /// Conversions by numbers that do not serve document 02's W-206, "by a multiplication, an addition and a shift".
 /// With factor 2,611 and shift 10 the addends 477 to 513 serve.
-pub const WRONG: [(&str, fn(u8) -> u8); 5] = [
+pub const WRONG: [(&str, Conversion); 5] = [
     ("addend 476", addend_476),
     ("addend 514", addend_514),
     ("factor 2,610", |percent| ((2610 * u32::from(percent) + 495) >> 10) as u8),

@@ -14,11 +14,15 @@ use crate::table::Param;
 use damper::{Answer, Drive, Last};
 use std::cmp::Reverse;
 
+type EventCall = fn(&mut [Drive], &[u32], &[u8], &mut [u8]) -> u8;
+type TickCall = fn(&mut [Drive], u32, &mut [u32]) -> u8;
+type PageCall = fn(&[Drive], &mut [u8]) -> u8;
+
 pub struct Wrong {
     pub name: &'static str,
-    event: fn(&mut [Drive], &[u32], &[u8], &mut [u8]) -> u8,
-    tick: fn(&mut [Drive], u32, &mut [u32]) -> u8,
-    page: fn(&[Drive], &mut [u8]) -> u8,
+    event: EventCall,
+    tick: TickCall,
+    page: PageCall,
 }
 
 impl Hall for Wrong {

@@ -39,13 +39,7 @@ pub const CASES: &[Case] = &[
     case("Rate 5, 0 to 255 in 51 ticks", ["5AC302FF0000 T*51", "T*3"], true, 255, &[]),
     case("50 ticks reach 250", ["5AC302FF0000 T*50", "T*3"], false, 250, &["OneTickLess"]),
     case("Rate 1, 0 to 255 in 255 ticks", ["5AC308CB0001 5AC302FF0000 T*255", "T"], true, 255, &[]),
-    case(
-        "254 ticks reach 254",
-        ["5AC308CB0001 5AC302FF0000 T*254", "T"],
-        false,
-        254,
-        &["OneTickLess"],
-    ),
+    case("254 ticks reach 254", ["5AC308CB0001 5AC302FF0000 T*254", "T"], false, 254, &["OneTickLess"]),
     case("Rate 255, K 1", ["5AC308CB00FF 5AC302FF0000 T", "T"], true, 255, &[]),
     case("Rate 254, K 2", ["5AC308CB00FE 5AC302FF0000 T", ""], false, 254, &["OneTickLess"]),
     case(
@@ -113,7 +107,10 @@ pub const CASES: &[Case] = &[
     ),
     case(
         "the same by hand and bus",
-        ["5AC305016400 5AC302640000 T*20 5AC305000000 T*20 5AC305016400 T*11", "5AC305000000 T 5AC305016400 T"],
+        [
+            "5AC305016400 5AC302640000 T*20 5AC305000000 T*20 5AC305016400 T*11",
+            "5AC305000000 T 5AC305016400 T",
+        ],
         false,
         100,
         &[],
@@ -174,8 +171,11 @@ fn walk<S: Subject + ?Sized>(subject: &S, start: Drive, events: &[Bytes]) -> Wal
 fn turns(walked: &Walked) -> Vec<Turn<'_>> {
     let entries = walked.iter();
     entries
-        .map(|(before, bytes, refused, after)| {
-            Turn { before, given: Given::Record(bytes.as_slice()), refused: *refused, after }
+        .map(|(before, bytes, refused, after)| Turn {
+            before,
+            given: Given::Record(bytes.as_slice()),
+            refused: *refused,
+            after,
         })
         .collect()
 }

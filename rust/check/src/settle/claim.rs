@@ -47,7 +47,7 @@ impl Claim {
 /// Whether a list breaks the claim.
 pub fn broken(turns: &[Turn]) -> bool {
     let mut claim = Claim::default();
-    turns.iter().fold(false, |broken, turn| claim.turn(turn) || broken)
+    turns.iter().any(|turn| claim.turn(turn))
 }
 
 /// "K = 255 divided by Rate, rounded up."
