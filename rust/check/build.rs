@@ -39,7 +39,7 @@ fn main() {
 fn plain_c(root: &str, out: &str) {
     let (source, object, archive) =
         (format!("{root}/../../c/plain.c"), format!("{out}/plain.o"), format!("{out}/libplain.a"));
-    call("cc", &["-O3", "-std=c11", "-fPIE", "-c", &source, "-o", &object]);
+    call("cc", &["-O3", "-std=c11", "-Wall", "-Wextra", "-Werror", "-fPIE", "-c", &source, "-o", &object]);
     call("ar", &["crs", &archive, &object]);
     println!("cargo:rustc-link-search=native={out}");
     println!("cargo:rustc-link-lib=static=plain");

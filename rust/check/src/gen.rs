@@ -361,7 +361,7 @@ impl Gen {
             Param::Timeout => rng.pick(&[1, 2, 3, 4, 6, 9, 15, 30, 1 + any % 100, any]),
             Param::RepPer => rng.pick(&[1, 2, 4, 7, 12, 20, 30, 60, 1 + any % 200, any]),
             Param::Rate if self.grid => rng.pick(&[51, 51, 255, 17]),
-            Param::Rate => rng.pick(&[1, 2, 3, 4, 5, 5, 17, 50, 51, 64, 85, 127, 128, 254, 255, any]),
+            Param::Rate => rng.pick(&[1, 1, 2, 3, 4, 5, 5, 17, 50, 51, 64, 85, 127, 128, 254, 255, any]),
             Param::Low => rng.pick(&[0, 0, 0, 1, any % 80, any % 80, any]),
             Param::High => rng.pick(&[255, 255, 255, 254, 255 - any % 80, 255 - any % 80, any]),
             Param::BackupValue => self.percent().into(),

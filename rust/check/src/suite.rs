@@ -19,7 +19,7 @@ const STEPS: u64 = 5_000_000;
 const LEAST_COUNT: u64 = 1_000;
 /// What the gate has to reach, where that is more.
 const LEAST: [(&str, u64); 3] =
-    [("hall tick given", 1_000_000), ("W-207 in steps: all", 750_000), ("W-207 in halls: all", 600_000)];
+    [("hall tick given", 1_000_000), ("W-207 in steps: all", 500_000), ("W-207 in halls: all", 500_000)];
 
 /// Lists that are replayed.
 const REPLAYS: u32 = 20_000;
