@@ -198,12 +198,12 @@ pub(crate) fn shorten<T: Clone>(
     list
 }
 
-/// The list in hexadecimal, and what both sides made of its last event.
+/// The list in hexadecimal, equal events in a row as in `cases`, and what both sides made of its last event.
 fn describe<S: Subject + ?Sized>(subject: &S, list: &[Bytes]) -> String {
     let mut text = format!("{} events:", list.len());
-    for bytes in list {
-        text.push(' ');
-        text.push_str(&hex(bytes.as_slice()));
+    for row in list.chunk_by(|one, other| one == other) {
+        let times = if row.len() > 1 { format!("*{}", row.len()) } else { String::new() };
+        let _ = write!(text, " {}{times}", hex(row[0].as_slice()));
     }
     match failure_on(subject, Ask::All, list) {
         Some((i, failure)) => text.push_str(&both_sides(i + 1, &failure)),
