@@ -234,9 +234,9 @@ fn every_wrong_drive() {
 #[test]
 fn found_beyond_demand_3() {
     for name in ["PercentRoundedDown", "NeverPeriodic", "PeriodGreater", "CovAsPosition"] {
-        let lists = random_lists(2, 40);
-        let found = lists.iter().any(|events| {
-            let answers = answers_of(wrong::named(name), slices(events));
+        let mut lists = random_lists(2, 40).into_iter().chain(fixed_lists(false));
+        let found = lists.any(|events| {
+            let answers = answers_of(wrong::named(name), slices(&events));
             let mut checker = Checker::from_fresh();
             let positions = shown(&answers);
             let admits = |((bytes, answer), position): (&(&[u8], Answer), &u8)| {
