@@ -71,7 +71,10 @@ fn verdict(passed: bool) -> bool {
 
 /// Whether all agree, and what was met. Each seed gets this many events on lists and single steps.
 fn compared(events: u64, steps: u64, seeds: &[u64]) -> (bool, Counts) {
-    let mut parts: Vec<_> = seeds.iter().flat_map(|&seed| parts(events, steps, seed)).collect();
+    let of_seed = |&seed| parts(events, steps, seed).into_iter().enumerate();
+    let mut parts: Vec<_> = seeds.iter().flat_map(of_seed).collect();
+    parts.sort_by_key(|(place, _)| *place);
+    let mut parts: Vec<_> = parts.into_iter().map(|(_, part)| part).collect();
     parts.push(Part { name: "reader, writer and fixed lists".to_string(), run: Box::new(fixed) });
     let outcomes: Vec<Mutex<Option<Outcome>>> = parts.iter().map(|_| Mutex::new(None)).collect();
     let queue = Mutex::new(parts.into_iter().zip(&outcomes));
@@ -93,6 +96,7 @@ fn compared(events: u64, steps: u64, seeds: &[u64]) -> (bool, Counts) {
         }
     });
     let mut passed = true;
+    // The sum of the least counts of several parts is no more than the least of their sums.
     let mut counts: Counts = Vec::new();
     for outcome in outcomes {
         let (result, met) = outcome.into_inner().expect("an outcome").expect("every part has run");
@@ -107,24 +111,24 @@ fn compared(events: u64, steps: u64, seeds: &[u64]) -> (bool, Counts) {
     (passed, counts)
 }
 
-/// The comparisons by a seed.
+/// The comparisons by a seed, the longest first.
 fn parts(events: u64, steps: u64, seed: u64) -> Vec<Part> {
     vec![
-        part("events on lists", seed, move || {
-            let mut cover = Cover::default();
-            (compare::lists(&Proved, seed, events, &mut cover), cover.counts())
-        }),
-        part("single steps", seed, move || {
-            let mut cover = Cover::default();
-            (compare::singles(&Proved, seed, steps, &mut cover), cover.counts())
-        }),
         part("hall calls", seed, move || {
             let mut cover = HallCover::default();
             (halls(&Proved, seed, events / EVENTS_A_CALL, &mut cover), cover.counts())
         }),
+        part("events on lists", seed, move || {
+            let mut cover = Cover::default();
+            (compare::lists(&Proved, seed, events, &mut cover), cover.counts())
+        }),
         part("audit and outlook", seed, move || {
             let mut cover = AuditCover::default();
             (audits(seed, events / EVENTS_AN_AUDIT, &mut cover), cover.counts())
+        }),
+        part("single steps", seed, move || {
+            let mut cover = Cover::default();
+            (compare::singles(&Proved, seed, steps, &mut cover), cover.counts())
         }),
         part("replay", seed, move || (replays(proved_replay, seed, REPLAYS), Vec::new())),
     ]
