@@ -237,18 +237,11 @@ wrong! {
         }
         refusal
     });
-    // "Further places of the row keep their content", in either call.
+    // "Further places of the row keep their content"
     AnswersTailCleared: EventCall(|row, list, bytes, answers| {
         let refusal = HallModel.event(row, list, bytes, answers);
         if refusal == 0 {
             answers[list.len()..].fill(0);
-        }
-        refusal
-    });
-    NumbersTailCleared: TickCall(|row, quota, numbers| {
-        let refusal = HallModel.tick(row, quota, numbers);
-        if refusal == 0 {
-            numbers[row.len()..].fill(0);
         }
         refusal
     });
@@ -298,7 +291,7 @@ wrong! {
         }
         _ => HallModel.tick(row, quota, numbers),
     });
-    // "14 to 16 come before 1 to 13, in this order": 15 before 14, 16 before 15, 16 before 14 in a hall tick.
+    // "14 to 16 come before 1 to 13, in this order": 15 before 14, 16 before 15.
     NumberBeforeRow: Refusal(|call, right| match right {
         14 if call.list.iter().any(|number| call.is_bad(number)) => 15,
         _ => right,
@@ -306,10 +299,6 @@ wrong! {
     CallBeforeNumber: Refusal(|call, right| match right {
         15 if call.is_tick() || call.list.len() > 64 || call.places < call.list.len() => 16,
         _ => right,
-    });
-    TickCallBeforeRow: TickCall(|row, quota, numbers| match HallModel.tick(row, quota, numbers) {
-        14 if numbers.len() < row.len() => 16,
-        refusal => refusal,
     });
     // "and nothing is touched": the event of a call refused by 16 is given after all.
     RefusedEventGiven: EventCall(|row, list, bytes, answers| {
@@ -383,12 +372,20 @@ wrong! {
 
     // W-204 "sends at most that many reports": one more.
     OneOverQuota: Sent(|_, due, quota| due.into_iter().take(quota + 1).collect());
-    // "If any is due, the one that waited longest goes": none does; the lowest does.
+    // "If any is due, the one that waited longest goes": none does; the lowest does; the one with the most ticks since
+    // its report does.
     NothingSent: Sent(|_, _, _| Vec::new());
     LowestGoes: Sent(|_, due, _| due.into_iter().min().into_iter().collect());
+    LongestBySince: Sent(|row, due, _| due.into_iter().max_by_key(|&i| row[i].since).into_iter().collect());
     // "lower number first among equals": the higher.
     TiesToHigher: Sent(|row, due, _| due.into_iter().max_by_key(|&i| (row[i].wait, i)).into_iter().collect());
-    // "A well-formed drive is due when the fourth step of a tick would report": one that is not is sent.
+    // "A well-formed drive is due when the fourth step of a tick would report": not if MinRepTime is reached by this
+    // tick; one that is not is sent.
+    DueBeforeAgeing: After(Ticked::Sent, |before, drive, number| {
+        if before.since < before.params[Param::MinRepTime as usize] {
+            (drive.since, drive.last, *number) = (before.since + 1, before.last, 0);
+        }
+    });
     NotDueSent: After(NotDue, |_, drive, number| {
         *number = report_number(drive.position, status(drive));
         Model::report(drive, status(drive));
