@@ -8,7 +8,6 @@
 
 static const uint16_t least[DAMPER_PARAMETERS] = {1, 0, 1, 1, 0, 0, 0, 1, 1, 1, 0, 0};
 static const uint16_t most[DAMPER_PARAMETERS] = {4, 1, 100, 3600, 1, 100, 2, 7200, 7200, 255, 255, 255};
-static const uint16_t fresh[DAMPER_PARAMETERS] = {1, 0, 1, 10, 0, 0, 0, 1860, 900, 5, 0, 255};
 
 /* The parameter of a number, or DAMPER_PARAMETERS. */
 static unsigned numbered(uint8_t number)
@@ -115,7 +114,7 @@ static bool absent_reads_0(const damper_drive *d)
              stray(d->last.reported, d->last.position | d->last.status));
 }
 
-bool plain_well_formed(const damper_drive *d)
+static bool well_formed(const damper_drive *d)
 {
     return params_in_range(d) && d->params[DAMPER_PLACE_LOW] <= d->params[DAMPER_PLACE_HIGH] && flags_are_flags(d) &&
            d->commands.forcing <= DAMPER_FORCING_TO_255 && run_fits(d) && absent_reads_0(d);
@@ -367,7 +366,7 @@ static answer read_parameter(const damper_drive *d, uint8_t number)
 
 static answer step(damper_drive *d, const uint8_t *bytes, size_t length)
 {
-    if (!plain_well_formed(d))
+    if (!well_formed(d))
         return refused(DAMPER_REFUSAL_RECORD);
     if (length != DAMPER_EVENT_LENGTH)
         return refused(DAMPER_REFUSAL_LENGTH);
@@ -389,12 +388,6 @@ static answer step(damper_drive *d, const uint8_t *bytes, size_t length)
     case DAMPER_KIND_READ_PARAMETER: return b | c ? refused(DAMPER_REFUSAL_UNUSED) : read_parameter(d, a);
     default: return refused(DAMPER_REFUSAL_KIND);
     }
-}
-
-void plain_fresh(damper_drive *d)
-{
-    memset(d, 0, sizeof *d);
-    memcpy(d->params, fresh, sizeof fresh);
 }
 
 void plain_step(damper_drive *d, const uint8_t *bytes, size_t length, uint8_t *word, uint32_t *code)
@@ -475,7 +468,7 @@ static uint64_t advance_all(damper_drive *row, size_t drives, uint32_t *numbers,
     uint64_t due = 0;
     for (size_t i = 0; i < drives; i++) {
         damper_drive *d = &row[i];
-        if (!plain_well_formed(d)) {
+        if (!well_formed(d)) {
             numbers[i] = DAMPER_HALL_NOT_WELL_FORMED;
             continue;
         }
@@ -533,20 +526,6 @@ uint8_t plain_hall_tick(damper_drive *row, size_t drives, uint32_t quota, uint32
     return 0;
 }
 
-uint8_t plain_hall_tick_sending(damper_drive *row, size_t drives, uint32_t quota, uint32_t *numbers, size_t places,
-                                uint64_t sent, uint64_t *due)
-{
-    uint8_t refusal = judge_tick(drives, quota, places), now[DAMPER_HALL_MOST];
-    *due = 0;
-    if (refusal != 0)
-        return refusal;
-    *due = advance_all(row, drives, numbers, now);
-    for (size_t i = 0; i < drives; i++)
-        if (*due >> i & 1)
-            settle(&row[i], sent >> i & 1, now[i], &numbers[i]);
-    return 0;
-}
-
 /* The shift page. */
 
 /* The first column of each field, and the line feed. */
@@ -594,7 +573,7 @@ static void put_line(uint8_t *line, unsigned number, const damper_drive *d)
     static const char dashes[] = "   --- --- -------- --------\n";
     memcpy(line, dashes, FEED_AT + 1);
     put_in_2(line + NUMBER_AT, number);
-    if (!plain_well_formed(d))
+    if (!well_formed(d))
         return;
     put_in_3(line + POSITION_AT, d->position);
     put_in_3(line + PERCENT_AT, percent_of(d->position));

@@ -1,10 +1,8 @@
-//! Compiles the plain C drive, and writes the wrong drives, the wrong halls, the false wordings of
-//! demand 3 and the other wordings of W-207 that are the right ones with a piece of their text changed.
+//! Compiles the plain C drive, and writes the wrong drives and the false wordings of demand 3 and of W-207 that are
+//! the right ones with a piece of their text changed.
 
 #[path = "edits/drives.rs"]
 mod drives;
-#[path = "edits/halls.rs"]
-mod halls;
 #[path = "edits/settle.rs"]
 mod settle;
 #[path = "edits/wordings.rs"]
@@ -22,6 +20,10 @@ pub struct Edit {
     pub changes: &'static [(&'static str, &'static str)],
 }
 
+pub const fn edit(name: &'static str, changes: &'static [(&'static str, &'static str)]) -> Edit {
+    Edit { name, changes }
+}
+
 fn main() {
     let root = env::var("CARGO_MANIFEST_DIR").unwrap();
     let out = env::var("OUT_DIR").unwrap();
@@ -29,16 +31,15 @@ fn main() {
     plain_c(&root, &out);
     let source = |name| format!("{root}/src/{name}.rs");
     let target = |name| format!("{out}/{name}.rs");
-    edited(&source("model"), drives::EDITS, "Wrong", "drive: &NAME::Model", &target("drives"));
-    edited(&source("hall"), halls::EDITS, "Wrong", "hall: &NAME::HallModel", &target("halls"));
-    edited(&source("literal"), wordings::EDITS, "Wording", "broken: NAME::broken", &target("wordings"));
-    edited(&source("settle/claim"), settle::EDITS, "Wording", "judge: NAME::judge", &target("settle"));
+    edited(&source("model"), drives::EDITS, false, &target("drives"));
+    edited(&source("literal"), wordings::EDITS, true, &target("wordings"));
+    edited(&source("settle/claim"), settle::EDITS, true, &target("settle"));
 }
 
 fn plain_c(root: &str, out: &str) {
     let (source, object, archive) =
         (format!("{root}/../../c/plain.c"), format!("{out}/plain.o"), format!("{out}/libplain.a"));
-    call("cc", &["-O3", "-std=c11", "-fPIE", "-c", &source, "-o", &object]);
+    call("cc", &["-O3", "-std=c11", "-Wall", "-Wextra", "-Werror", "-fPIE", "-c", &source, "-o", &object]);
     call("ar", &["crs", &archive, &object]);
     println!("cargo:rustc-link-search=native={out}");
     println!("cargo:rustc-link-lib=static=plain");
@@ -51,16 +52,17 @@ fn call(program: &str, args: &[&str]) {
     assert!(status.is_ok_and(|status| status.success()), "{program} {} failed", args.join(" "));
 }
 
-/// Writes a module for each edit, and `EDITED`, a row of `kind` with an entry for each.
-fn edited(source: &str, edits: &[Edit], kind: &str, field: &str, target: &str) {
+/// Writes a module for each edit, and for wordings `EDITED`, a row of them by their function `broken`.
+fn edited(source: &str, edits: &[Edit], wordings: bool, target: &str) {
     println!("cargo:rerun-if-changed={source}");
     let right = fs::read_to_string(source).unwrap();
-    let mut text = format!("pub const EDITED: &[{kind}] = &[\n");
-    for Edit { name, .. } in edits {
-        let field = field.replace("NAME", name);
-        writeln!(text, "{kind} {{ name: {name:?}, {field} }},").unwrap();
+    let mut text = String::new();
+    if wordings {
+        let entry =
+            |Edit { name, .. }: &Edit| format!("Wording {{ name: {name:?}, broken: {name}::broken }},\n");
+        let entries: String = edits.iter().map(entry).collect();
+        writeln!(text, "pub const EDITED: &[Wording] = &[\n{entries}];").unwrap();
     }
-    text += "];\n";
     for Edit { name, changes } in edits {
         let mut wrong = right.clone();
         for (old, new) in *changes {

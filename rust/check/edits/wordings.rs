@@ -1,11 +1,7 @@
 //! Wordings of demand 3 that look right and are false: `src/literal.rs` with a piece of its text changed.
 //! Lists that show them false are in `src/cases.rs`.
 
-use crate::Edit;
-
-const fn edit(name: &'static str, changes: &'static [(&'static str, &'static str)]) -> Edit {
-    Edit { name, changes }
-}
+use crate::{edit, Edit};
 
 pub const EDITS: &[Edit] = &[
     // Waiting by ActPosCOV as at the last report.

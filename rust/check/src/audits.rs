@@ -85,8 +85,7 @@ fn in_order(f: Findings) -> [bool; 10] {
 /// Gives the number of records, or the first list on which audit or outlook and the others differ.
 pub fn audits(seed: u64, events: u64, cover: &mut AuditCover) -> Result<u64, Finding> {
     let mut gen = Gen::new(seed);
-    let all: Vec<_> = wrong::all().collect();
-    let mut drives = all.iter().cycle();
+    let mut drives = wrong::ALL.iter().cycle();
     let mut done = 0;
     while done < events {
         let wrong = drives.next().expect("a wrong drive");

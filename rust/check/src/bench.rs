@@ -47,7 +47,7 @@ pub fn spend(who: &str, what: &str, n: usize) {
     match who {
         "proved" => black_box(proved_replay(fresh, &bytes, &mut words, &mut codes)),
         "model" => black_box(model_replay(fresh, &bytes, &mut words, &mut codes)),
-        "plain" => black_box(Plain.replay(fresh, &bytes, &mut words, &mut codes)),
+        "plain" => black_box(Plain::replay(fresh, &bytes, &mut words, &mut codes)),
         _ => (fresh, 0),
     };
     black_box((words, codes));
@@ -127,7 +127,7 @@ fn replay(what: &str) {
         [
             &mut || proved.2 = proved_replay(fresh, black_box(&bytes), &mut proved.0, &mut proved.1),
             &mut || model.2 = model_replay(fresh, black_box(&bytes), &mut model.0, &mut model.1),
-            &mut || plain.2 = Plain.replay(fresh, black_box(&bytes), &mut plain.0, &mut plain.1),
+            &mut || plain.2 = Plain::replay(fresh, black_box(&bytes), &mut plain.0, &mut plain.1),
         ],
     )
     .show(&format!("replay, {what}"), "record");

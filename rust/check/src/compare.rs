@@ -1,12 +1,14 @@
-//! The runs that set a `Subject` against the model and against demand 3.
+//! The runs that set a `Subject` against the model, against demand 3 and against W-207.
 
 use crate::cases::{self, Case, CASES};
-use crate::check::{Breach, Checker};
+use crate::check::{Breach, Checker, Clause};
 use crate::cover::Cover;
 use crate::event::MARK;
 use crate::gen::{Bytes, Gen};
 use crate::literal::Entry;
 use crate::model::Model;
+use crate::settle::cover::Watch;
+use crate::settle::{Given, Turn};
 use crate::subject::Subject;
 use crate::wordings::{self, Wording};
 use damper::{Answer, Drive};
@@ -35,14 +37,17 @@ pub enum Ask {
     Equality,
     /// Demand 3.
     Demand3,
-    Both,
+    /// W-207.
+    Settling,
+    All,
 }
 
-/// A subject beside the model, both fresh at first, and the checker of demand 3.
+/// A subject beside the model, both fresh at first, with the checker of demand 3 and the claim of W-207.
 struct Pair<'s, S: Subject + ?Sized> {
     subject: &'s S,
     ask: Ask,
     checker: Checker,
+    watch: Watch,
     model: Drive,
     tested: Drive,
 }
@@ -52,28 +57,39 @@ struct Failure {
     model: (Answer, Drive),
     tested: (Answer, Drive),
     breach: Breach,
+    /// It does not get there, or does not stay.
+    unsettled: bool,
 }
 
 impl<'s, S: Subject + ?Sized> Pair<'s, S> {
     fn new(subject: &'s S, ask: Ask) -> Self {
-        Pair { subject, ask, checker: Checker::from_fresh(), model: Model.fresh(), tested: subject.fresh() }
+        let (checker, watch) = (Checker::from_fresh(), Watch::default());
+        Pair { subject, ask, checker, watch, model: Model.fresh(), tested: subject.fresh() }
     }
 
     #[inline]
-    fn event(&mut self, bytes: &[u8], cover: Option<&mut Cover>) -> Result<(), Failure> {
+    fn event(&mut self, bytes: &[u8], mut cover: Option<&mut Cover>) -> Result<(), Failure> {
+        let asked = |what| self.ask == what || self.ask == Ask::All;
         let model = Model.step(&self.model, bytes);
         let tested = self.subject.step(&self.tested, bytes);
+        let differs = asked(Ask::Equality) && model != tested;
         let mut breach = Breach::default();
-        if self.ask != Ask::Equality {
+        if asked(Ask::Demand3) {
             breach = self.checker.event(bytes, &tested.0, tested.1.position);
         }
-        if let Some(cover) = cover {
+        if let Some(cover) = &mut cover {
             cover.event(&self.model, bytes, &model.0, &model.1);
+        }
+        let mut unsettled = false;
+        if asked(Ask::Settling) {
+            let refused = matches!(tested.0, Answer::Refused(_));
+            let turn = Turn { before: &self.tested, given: Given::Record(bytes), refused, after: &tested.1 };
+            unsettled = self.watch.turn(&turn, cover.map(|cover| &mut cover.settling));
         }
         self.model = model.1;
         self.tested = tested.1;
-        if (self.ask != Ask::Demand3 && model != tested) || !breach.none() {
-            return Err(Failure { model, tested, breach });
+        if differs || unsettled || !breach.none() {
+            return Err(Failure { model, tested, breach, unsettled });
         }
         Ok(())
     }
@@ -86,10 +102,10 @@ pub fn lists<S: Subject + ?Sized>(
     events: u64,
     cover: &mut Cover,
 ) -> Result<u64, Finding> {
-    match first_failure(subject, seed, events, Ask::Both, Some(cover)) {
+    match first_failure(subject, seed, events, Ask::All, Some(cover)) {
         Ok(done) => Ok(done),
         Err((_, list, _)) => {
-            let short = shorten(list, 20_000_000, |list| Some(failure_on(subject, Ask::Both, list)?.0));
+            let short = shorten(list, 20_000_000, |list| Some(failure_on(subject, Ask::All, list)?.0));
             finding(format!("seed {seed}"), describe(subject, &short))
         }
     }
@@ -97,7 +113,7 @@ pub fn lists<S: Subject + ?Sized>(
 
 /// The number of events done, or, at the first failure, that number, the list up to there and what of
 /// demand 3 fails.
-pub(crate) fn first_failure<S: Subject + ?Sized>(
+pub fn first_failure<S: Subject + ?Sized>(
     subject: &S,
     seed: u64,
     events: u64,
@@ -118,8 +134,35 @@ pub(crate) fn first_failure<S: Subject + ?Sized>(
                 return Err((done, list, failure.breach));
             }
         }
+        if let Some(cover) = cover.as_deref_mut() {
+            pair.watch.end_of_list(&mut cover.settling);
+        }
     }
     Ok(done)
+}
+
+/// Whether a subject breaks this part of demand 3, or any, on lists that go on after others are broken.
+pub(crate) fn breaks<S: Subject + ?Sized>(
+    subject: &S,
+    clause: Option<Clause>,
+    seed: u64,
+    events: u64,
+) -> bool {
+    let mut gen = Gen::new(seed);
+    let mut done = 0;
+    while done < events {
+        let mut pair = Pair::new(subject, Ask::Demand3);
+        for _ in 0..gen.list() {
+            let bytes = gen.event(&pair.model);
+            done += 1;
+            if let Err(failure) = pair.event(bytes.as_slice(), None) {
+                if clause.is_none_or(|clause| failure.breach.has(clause)) {
+                    return true;
+                }
+            }
+        }
+    }
+    false
 }
 
 /// The index of the event at which a subject fails on a given list.
@@ -155,14 +198,14 @@ pub(crate) fn shorten<T: Clone>(
     list
 }
 
-/// The list in hexadecimal, and what both sides made of its last event.
+/// The list in hexadecimal, equal events in a row as in `cases`, and what both sides made of its last event.
 fn describe<S: Subject + ?Sized>(subject: &S, list: &[Bytes]) -> String {
     let mut text = format!("{} events:", list.len());
-    for bytes in list {
-        text.push(' ');
-        text.push_str(&hex(bytes.as_slice()));
+    for row in list.chunk_by(|one, other| one == other) {
+        let times = if row.len() > 1 { format!("*{}", row.len()) } else { String::new() };
+        let _ = write!(text, " {}{times}", hex(row[0].as_slice()));
     }
-    match failure_on(subject, Ask::Both, list) {
+    match failure_on(subject, Ask::All, list) {
         Some((i, failure)) => text.push_str(&both_sides(i + 1, &failure)),
         None => text.push_str("\n  not met again when the list is repeated"),
     }
@@ -174,6 +217,9 @@ fn both_sides(count: usize, failure: &Failure) -> String {
     let mut text = format!("\n  at event {count}");
     if !failure.breach.none() {
         let _ = write!(text, ", demand 3 fails in: {}", failure.breach);
+    }
+    if failure.unsettled {
+        text += ", W-207 fails";
     }
     let _ = write!(text, "\n  model:   {}\n           {:?}", model.0, model.1);
     let _ = write!(text, "\n  subject: {}\n           {:?}", tested.0, tested.1);
@@ -206,7 +252,7 @@ pub fn singles<S: Subject + ?Sized>(
         let same = model == tested && well_formed.0 == well_formed.1;
         let kept = !well_formed.0 || Model.well_formed(&model.1);
         if !same || !kept {
-            let failure = Failure { model, tested, breach: Breach::default() };
+            let failure = Failure { model, tested, breach: Breach::default(), unsettled: false };
             let text = format!(
                 "step {done}, event {}\n  on {record:?}\n  well formed: model {}, subject {}{}",
                 hex(bytes.as_slice()),
@@ -291,7 +337,7 @@ pub fn fixed<S: Subject + ?Sized>(subject: &S) -> Result<u64, Finding> {
     let mut done = 0;
     for case in cases::all() {
         let events = case.events();
-        if let Some((i, failure)) = failure_on(subject, Ask::Both, &events) {
+        if let Some((i, failure)) = failure_on(subject, Ask::All, &events) {
             return finding(case.name, both_sides(i + 1, &failure));
         }
         let entries = entries(subject, &events);

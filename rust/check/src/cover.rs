@@ -3,7 +3,8 @@
 use crate::flag::Flag;
 use crate::gen::Origin;
 use crate::model::{percent_to_position, Model};
-use crate::percents::{backup_value_reached, Percents};
+use crate::percents::Percents;
+use crate::settle::cover::SettleCover;
 use crate::subject::Subject;
 use crate::table::Param;
 use damper::{Answer, Drive, Rank, Refusal, Status};
@@ -34,6 +35,7 @@ pub struct Cover {
     origins: [u64; 5],
     /// Records refused by 1 that the flag alone, a byte above 1, keeps from being well formed.
     flags: [u64; 5],
+    pub settling: SettleCover,
 }
 
 impl Cover {
@@ -58,7 +60,7 @@ impl Cover {
     pub fn event(&mut self, before: &Drive, bytes: &[u8], answer: &Answer, after: &Drive) {
         match *answer {
             Answer::Refused(refusal) => self.refusal(refusal),
-            Answer::Tick { rank, report, .. } => self.tick(before, bytes, rank, report, after),
+            Answer::Tick { rank, report, .. } => self.tick(before, rank, report, after),
             Answer::Done => self.accepted(before, bytes, after),
             Answer::Position { position, .. } => {
                 self.raised_reads += u64::from(100 * u16::from(position) % 255 > 127)
@@ -67,7 +69,7 @@ impl Cover {
         }
     }
 
-    fn tick(&mut self, before: &Drive, bytes: &[u8], rank: Rank, report: Option<Status>, after: &Drive) {
+    fn tick(&mut self, before: &Drive, rank: Rank, report: Option<Status>, after: &Drive) {
         self.ranks[rank.number() as usize] += 1;
         if before.run.kind != 0 && after.run.kind == 0 {
             self.run_ends[0] += 1;
@@ -75,9 +77,7 @@ impl Cover {
         if let Some(status) = report {
             self.reasons[reason(before, after.position, status)] += 1;
         }
-        if let Some(value) = backup_value_reached(before, rank, after.position) {
-            self.percents[2].count(value, before, bytes, after);
-        }
+        self.percents[2].tick(before, after.position);
         if cov_as_position(before, after.position) {
             match report {
                 None if after.since < param(after, Param::MinRepTime) => {}
@@ -91,7 +91,7 @@ impl Cover {
         let ran = before.run.kind != 0;
         let in_time = |r: &Drive| r.age <= param(r, Param::Timeout);
         match bytes[2] {
-            3 if bytes[5] < 2 => self.percents[usize::from(bytes[5])].count(bytes[4], before, bytes, after),
+            3 if bytes[5] < 2 => self.percents[usize::from(bytes[5])].written(bytes[4]),
             7 if ran && after.run.kind == 0 => self.run_ends[1] += 1,
             4 if ran && after.run.kind == 0 => self.run_ends[2] += 1,
             9 if ran => self.run_ends[3] += 1,
@@ -116,7 +116,8 @@ impl Cover {
         let origins = Origin::ALL.map(|o| (format!("record: {o:?}"), self.origins[o as usize]));
         let flags = Flag::ALL.map(|f| (format!("refused for the flag {f:?}"), self.flags[f as usize]));
         let events = refusals.chain(ranks).chain(ends).chain(revived).chain(reasons);
-        events.chain(percents).chain(origins).chain(flags).collect()
+        let settling = self.settling.counts(false);
+        events.chain(percents).chain(origins).chain(flags).chain(settling).collect()
     }
 }
 

@@ -8,6 +8,7 @@
 use crate::event::{Event, MARK};
 use crate::flag::Flag;
 use crate::model::{percent_to_position, Model};
+use crate::percents::ruled_by_backup_value;
 use crate::subject::Subject;
 use crate::table::{Param, TABLE};
 use damper::{Drive, Last};
@@ -219,7 +220,7 @@ impl Gen {
         if record.commands.stored == 1 && record.age > timeout && self.rng.once_in(8) {
             return self.revival(record);
         }
-        if left_to_backup_value(record) && self.rng.once_in(5) {
+        if ruled_by_backup_value(record) && self.rng.once_in(5) {
             return self.backup_value(record);
         }
         match self.rng.below(100) {
@@ -247,13 +248,15 @@ impl Gen {
     /// As many ticks as bring a count about its limit.
     fn burst_length(&mut self, record: &Drive) -> u32 {
         let p = |param| record.params[param as usize];
-        let missing = match self.rng.below(8) {
+        let missing = match self.rng.below(10) {
             0 | 1 => p(Param::MinRepTime).saturating_sub(record.since),
             2 => p(Param::RepPer).saturating_sub(record.since),
             3 | 4 => p(Param::Timeout).saturating_sub(record.age),
             5 => u16::from(record.run.left),
             6 => self.rng.between(1, 70),
-            _ => self.rng.between(1, 8),
+            7 => self.rng.between(1, 8),
+            // K, which the damper gets there by.
+            _ => 255u16.div_ceil(p(Param::Rate).max(1)) + 1,
         };
         let length = (u32::from(missing) + self.rng.below(4)).saturating_sub(2);
         if length > 300 && !self.rng.once_in(8) {
@@ -285,7 +288,7 @@ impl Gen {
     }
 
     fn percent(&mut self) -> u8 {
-        match self.rng.below(14) {
+        match self.rng.below(24) {
             _ if self.grid => self.rng.pick(&GRID_PERCENTS),
             0..3 => self.rng.pick(&GRID_PERCENTS),
             3 | 4 => self.rng.pick(&HALVES),
@@ -358,7 +361,7 @@ impl Gen {
             Param::Timeout => rng.pick(&[1, 2, 3, 4, 6, 9, 15, 30, 1 + any % 100, any]),
             Param::RepPer => rng.pick(&[1, 2, 4, 7, 12, 20, 30, 60, 1 + any % 200, any]),
             Param::Rate if self.grid => rng.pick(&[51, 51, 255, 17]),
-            Param::Rate => rng.pick(&[1, 2, 3, 4, 5, 5, 17, 50, 51, 64, 85, 127, 128, 254, 255, any]),
+            Param::Rate => rng.pick(&[1, 1, 2, 3, 4, 5, 5, 17, 50, 51, 64, 85, 127, 128, 254, 255, any]),
             Param::Low => rng.pick(&[0, 0, 0, 1, any % 80, any % 80, any]),
             Param::High => rng.pick(&[255, 255, 255, 254, 255 - any % 80, 255 - any % 80, any]),
             Param::BackupValue => self.percent().into(),
@@ -579,14 +582,6 @@ impl Gen {
             }
         }
     }
-}
-
-/// BackupValue rules.
-fn left_to_backup_value(record: &Drive) -> bool {
-    let c = record.commands;
-    let bus_active = c.stored == 1 && record.age <= record.params[Param::Timeout as usize];
-    let others = c.fault == 1 || c.forcing > 1 || record.run.kind != 0 || c.hand == 1 || c.tool == 1;
-    !others && !bus_active && record.params[Param::BackupMode as usize] == 0
 }
 
 /// Takes the commands and the run away, so that BackupValue rules.

@@ -178,7 +178,7 @@ fn forbidden(row: &[Drive], due: Drives, quota: u32, sent: Drives) -> Option<&'s
 
 /// 0, or the first that fits an event call: "14 to 16 come before 1 to 13, in this order", and 19 is "checked
 /// after 16, nothing touched".
-fn judge_event(drives: usize, list: &[u32], tick: bool, places: usize) -> u8 {
+pub(crate) fn judge_event(drives: usize, list: &[u32], tick: bool, places: usize) -> u8 {
     if outside_1_to_64(drives) {
         return 14;
     }
@@ -192,7 +192,7 @@ fn judge_event(drives: usize, list: &[u32], tick: bool, places: usize) -> u8 {
         return 16;
     }
     // "19 when a list names a drive twice"
-    if fewer_drives_than_entries(list) {
+    if names_twice(list) {
         return 19;
     }
     0
@@ -200,14 +200,14 @@ fn judge_event(drives: usize, list: &[u32], tick: bool, places: usize) -> u8 {
 
 /// One number stands at two places of a list, wherever they are, when the list names fewer drives than it has
 /// entries. Each number is below 64.
-fn fewer_drives_than_entries(list: &[u32]) -> bool {
+pub(crate) fn names_twice(list: &[u32]) -> bool {
     let named = list.iter().fold(0, |named: Drives, number| named | 1 << number);
     (named.count_ones() as usize) < list.len()
 }
 
 /// 0, or the first that fits a hall tick: "18 when the quota is outside 1 to 64, after 16 and before any
 /// drive is ticked".
-fn judge_tick(drives: usize, places: usize, quota: u32) -> u8 {
+pub(crate) fn judge_tick(drives: usize, places: usize, quota: u32) -> u8 {
     if outside_1_to_64(drives) {
         14
     } else if places < drives {
@@ -221,7 +221,7 @@ fn judge_tick(drives: usize, places: usize, quota: u32) -> u8 {
 
 /// 0, or the first that fits a page call: "17 when the lent page is shorter than 29 bytes per drive, checked
 /// after 14".
-fn judge_page(drives: usize, bytes: usize) -> u8 {
+pub(crate) fn judge_page(drives: usize, bytes: usize) -> u8 {
     if outside_1_to_64(drives) {
         14
     } else if bytes < LINE * drives {
@@ -245,7 +245,7 @@ fn answer_number(answer: Answer) -> u8 {
 }
 
 /// "65,536 + 256 × position + status for a report"
-fn report_number(position: u8, status: Status) -> u32 {
+pub(crate) fn report_number(position: u8, status: Status) -> u32 {
     65_536 + 256 * u32::from(position) + u32::from(status.0)
 }
 

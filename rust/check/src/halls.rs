@@ -1,5 +1,5 @@
 //! Halls against the second implementation, over lists of calls: after each call its number, the whole row
-//! and the whole answer row or page are compared, with places behind each that were not lent. Which due
+//! and the whole answer row or page are compared, with places before and behind each that were not lent. Which due
 //! drives a hall tick sends is free in part: those that the hall has sent have to be an allowed choice, and
 //! all else is compared with the second implementation's tick that sends just these. What a drive that was
 //! fresh at first got of the calls, its share, goes through the checker of demand 3, and every drive has to
@@ -14,23 +14,28 @@ use crate::compare::{hex, shorten, Ask, Finding};
 use crate::event::Event;
 use crate::hall::{numbers_of, tick_sending, Drives, HallModel, LINE};
 use crate::model::Model;
+use crate::settle::cover::Watch;
+use crate::settle::{self, Given};
 use crate::subject::{Hall, Subject};
 use cover::HallCover;
 use damper::{Drive, HallAnswer, HallTick};
 use gen::{Call, HallGen};
 use std::fmt::Debug;
+use std::ops::Range;
 
 /// A hall beside the second implementation, both with the same row at first.
 struct Pair<'h, H: Hall + ?Sized> {
     hall: &'h H,
     ask: Ask,
     drives: usize,
-    /// The row, and a drive behind it.
+    /// The row, with a drive before it and one behind it.
     model: Vec<Drive>,
     tested: Vec<Drive>,
     shares: Vec<Option<Share>>,
     /// Of every drive, due as its record says.
     turns: Vec<Turn>,
+    /// Of every drive, whether it gets there: W-207.
+    watches: Vec<Watch>,
 }
 
 /// What a drive that was fresh at first got of the calls. A number that stands for nothing is left to the
@@ -75,9 +80,14 @@ struct Failure {
     breach: Breach,
 }
 
-/// A row to lend, of content that no call writes, and a place behind it.
+/// A row to lend, of content that no call writes, with a place before it and one behind it.
 fn odd<T>(places: usize, content: impl Fn(u32) -> T) -> Vec<T> {
-    (0..=places as u32).map(content).collect()
+    (0..places as u32 + 2).map(content).collect()
+}
+
+/// The places of such a row that are lent.
+fn lent(places: usize) -> Range<usize> {
+    1..places + 1
 }
 
 /// The drives that a hall tick has sent, by its numbers.
@@ -89,26 +99,27 @@ fn sent(numbers: &[u32]) -> Drives {
 /// The first answer that differs.
 fn answers_differ<T: PartialEq + Debug>(model: &[T], tested: &[T]) -> Option<String> {
     let i = (0..model.len()).find(|&i| model[i] != tested[i])?;
-    Some(format!("\n  answer {i}: model {:?}, subject {:?}", model[i], tested[i]))
+    Some(format!("\n  answer {}: model {:?}, subject {:?}", i as i64 - 1, model[i], tested[i]))
 }
 
-/// The first line that differs, and its drive; behind the last one are bytes that no call writes.
+/// The first line that differs, and its drive; before the first and behind the last are bytes that no call writes.
 fn lines_differ(row: &[Drive], model: &[u8], tested: &[u8]) -> Option<String> {
     if model == tested {
         return None;
     }
-    let mut lines = model.chunks(LINE).zip(tested.chunks(LINE)).enumerate();
+    let mut lines = (-1..).zip(model.chunks(LINE).zip(tested.chunks(LINE)));
     let (i, (model, tested)) = lines.find(|(_, (model, tested))| model != tested)?;
     let (model, tested) = (model.escape_ascii(), tested.escape_ascii());
     let text = format!("\n  line {i}: model   \"{model}\"\n  line {i}: subject \"{tested}\"");
-    let drive = row.get(i).map(|drive| format!("\n  drive {i}: {drive:?}"));
+    let drive = usize::try_from(i).ok().and_then(|i| row.get(i));
+    let drive = drive.map(|drive| format!("\n  drive {i}: {drive:?}"));
     Some(text + &drive.unwrap_or_default())
 }
 
 impl<'h, H: Hall + ?Sized> Pair<'h, H> {
     fn new(hall: &'h H, ask: Ask, row: &[Drive]) -> Self {
-        let behind = Drive::from_bytes([0xEE; 46]);
-        let rows = [row, &[behind]].concat();
+        let odd = Drive::from_bytes([0xEE; 46]);
+        let rows = [&[odd], row, &[odd]].concat();
         Pair {
             hall,
             ask,
@@ -117,16 +128,17 @@ impl<'h, H: Hall + ?Sized> Pair<'h, H> {
             tested: rows,
             shares: row.iter().map(Share::of).collect(),
             turns: row.iter().map(|_| Turn::default()).collect(),
+            watches: row.iter().map(|_| Watch::default()).collect(),
         }
     }
 
     /// The row as the second implementation has it.
     fn row(&self) -> &[Drive] {
-        &self.model[..self.drives]
+        &self.model[lent(self.drives)]
     }
 
     fn call(&mut self, call: &Call, cover: Option<&mut HallCover>) -> Result<(), Failure> {
-        if self.ask == Ask::Demand3 {
+        if !self.asks(Ask::Equality) {
             // The hall goes its own way, and who is due is judged by its own records.
             self.model.copy_from_slice(&self.tested);
         }
@@ -137,56 +149,111 @@ impl<'h, H: Hall + ?Sized> Pair<'h, H> {
         }
     }
 
+    /// Whether this, or all, is asked.
+    fn asks(&self, what: Ask) -> bool {
+        self.ask == what || self.ask == Ask::All
+    }
+
+    /// The drives before a call, if they are asked for W-207.
+    fn asked_to_settle(&self) -> Vec<Drive> {
+        if self.asks(Ask::Settling) && self.drives <= 64 {
+            self.tested[lent(self.drives)].to_vec()
+        } else {
+            Vec::new()
+        }
+    }
+
+    /// Whether a drive breaks W-207 by what each got, and whether it was refused there.
+    fn unsettled(
+        &mut self,
+        before: &[Drive],
+        given: &[(Given, bool)],
+        cover: Option<&mut HallCover>,
+    ) -> bool {
+        let mut broken = false;
+        let mut cover = cover.map(|cover| &mut cover.settling);
+        let after = &self.tested[lent(self.drives)];
+        for (i, (before, &(given, refused))) in before.iter().zip(given).enumerate() {
+            let turn = settle::Turn { before, given, refused, after: &after[i] };
+            broken |= self.watches[i].turn(&turn, cover.as_deref_mut());
+        }
+        broken
+    }
+
     fn event(
         &mut self,
         list: &[u32],
         bytes: &[u8],
         places: usize,
-        cover: Option<&mut HallCover>,
+        mut cover: Option<&mut HallCover>,
     ) -> Result<(), Failure> {
-        let lent = odd(places, |i| 0x80 | i as u8);
-        let (mut model, mut tested) = (lent.clone(), lent);
-        let before = cover.is_some().then(|| self.row().to_vec());
-        let expected = HallModel.event(&mut self.model[..self.drives], list, bytes, &mut model[..places]);
-        let number = self.hall.event(&mut self.tested[..self.drives], list, bytes, &mut tested[..places]);
-        if let (Some(cover), Some(before)) = (cover, before) {
-            let answers = &model[..list.len().min(places)];
-            cover.event(&before, (list, bytes, places), (expected, answers), self.row());
+        let odd = odd(places, |i| 0x80 | i as u8);
+        let (mut model, mut tested) = (odd.clone(), odd);
+        let (before, row_before) = (self.asked_to_settle(), self.row().to_vec());
+        let (row, all) = (lent(self.drives), lent(places));
+        let expected = HallModel.event(&mut self.model[row.clone()], list, bytes, &mut model[all.clone()]);
+        let number = self.hall.event(&mut self.tested[row], list, bytes, &mut tested[all]);
+        if let Some(cover) = &mut cover {
+            let answers = &model[lent(list.len().min(places))];
+            cover.event(&row_before, (list, bytes, places), (expected, answers), self.row());
         }
+        let answers = &tested[lent(places)];
+        let mut given = [(Given::Nothing(number != 0), false); 64];
+        if number == 0 {
+            for (&place, &answer) in list.iter().zip(answers) {
+                if let Some(given) = given.get_mut(place as usize) {
+                    *given = (Given::Record(bytes), answer != 0);
+                }
+            }
+        }
+        let unsettled = self.unsettled(&before, &given, cover);
         let mut breach = Breach::default();
         // "a hall call refused itself belongs to no share". A listed drive has one turn, and its position
         // after the call is that after the turn.
-        if self.ask != Ask::Equality && number == 0 {
-            for (&place, &answer) in list.iter().zip(&tested[..places]) {
+        if self.asks(Ask::Demand3) && number == 0 {
+            let row = &self.tested[lent(self.drives)];
+            for (&place, &answer) in list.iter().zip(answers) {
                 if let Some(Some(share)) = self.shares.get_mut(place as usize) {
-                    breach.join(share.event(bytes, answer, self.tested[place as usize].position));
+                    breach.join(share.event(bytes, answer, row[place as usize].position));
                 }
             }
         }
         if number == 0 {
             let restart = Event::from_bytes(bytes) == Ok(Event::Restart);
-            for (&place, &answer) in list.iter().zip(&tested[..places]) {
+            for (&place, &answer) in list.iter().zip(answers) {
                 if let Some(turn) = self.turns.get_mut(place as usize) {
                     turn.event(restart && answer == 0);
                 }
             }
         }
-        self.judge((expected, number), answers_differ(&model, &tested), breach)
+        self.judge((expected, number), answers_differ(&model, &tested), breach, unsettled)
     }
 
-    fn tick(&mut self, quota: u32, places: usize, cover: Option<&mut HallCover>) -> Result<(), Failure> {
-        let lent = odd(places, |i| 0xDEAD_0000 | i);
-        let (mut model, mut tested) = (lent.clone(), lent);
-        let before = cover.is_some().then(|| self.row().to_vec());
+    fn tick(&mut self, quota: u32, places: usize, mut cover: Option<&mut HallCover>) -> Result<(), Failure> {
+        let odd = odd(places, |i| 0xDEAD_0000 | i);
+        let (mut model, mut tested) = (odd.clone(), odd);
+        let (before, row_before) = (self.asked_to_settle(), self.row().to_vec());
         let drives = self.drives;
-        let number = self.hall.tick(&mut self.tested[..drives], quota, &mut tested[..places]);
-        let sent = if number == 0 { sent(&tested[..places.min(drives)]) } else { 0 };
-        let expected = tick_sending(&mut self.model[..drives], quota, &mut model[..places], sent);
-        if let (Some(cover), Some(before)) = (cover, before) {
-            let numbers = &model[..drives.min(places)];
-            cover.tick(&before, (quota, places), &expected, (numbers, sent), &self.turns);
+        let number = self.hall.tick(&mut self.tested[lent(drives)], quota, &mut tested[lent(places)]);
+        let filled = lent(places.min(drives));
+        let sent = if number == 0 { sent(&tested[filled.clone()]) } else { 0 };
+        let expected = tick_sending(&mut self.model[lent(drives)], quota, &mut model[lent(places)], sent);
+        if let Some(cover) = &mut cover {
+            let after = (self.row(), &self.turns[..]);
+            cover.tick(&row_before, (quota, places), &expected, (&model[filled.clone()], sent), after);
         }
+        let mut given = [(Given::Nothing(true), false); 64];
+        if number == 0 {
+            let row = &self.tested[lent(drives)];
+            for (i, &number) in tested[filled].iter().enumerate().take(64) {
+                // "fresh, sent or not due it is 0"
+                let (sent, held) = (number >= 65_536, number == 0 && row[i].wait > 0);
+                given[i] = (Given::HallTick { sent, held }, number == 1);
+            }
+        }
+        let unsettled = self.unsettled(&before, &given, cover);
         let mut breach = Breach::default();
+        let asks_demand_3 = self.asks(Ask::Demand3);
         // "a hall call refused itself belongs to no share"
         if number != 0 {
             self.turns.iter_mut().for_each(Turn::tick_refused);
@@ -194,14 +261,15 @@ impl<'h, H: Hall + ?Sized> Pair<'h, H> {
             for (i, turn) in self.turns.iter_mut().enumerate() {
                 let (due, sent) = (expected.due >> i & 1 == 1, sent >> i & 1 == 1);
                 let passed = turn.passed(due, sent, drives);
-                breach.add(Clause::Turn, passed && self.ask != Ask::Equality);
+                breach.add(Clause::Turn, passed && asks_demand_3);
             }
         }
-        if self.ask != Ask::Equality && number == 0 {
+        if asks_demand_3 && number == 0 {
+            let (numbers, row) = (&tested[lent(places)], &self.tested[lent(drives)]);
             for (i, share) in self.shares.iter_mut().enumerate().take(places) {
                 if let Some(share) = share {
                     let found_due = expected.due.checked_shr(i as u32).is_some_and(|due| due & 1 == 1);
-                    breach.join(share.tick(tested[i], self.tested[i].position, found_due, drives));
+                    breach.join(share.tick(numbers[i], row[i].position, found_due, drives));
                 }
             }
         }
@@ -210,19 +278,20 @@ impl<'h, H: Hall + ?Sized> Pair<'h, H> {
             format!("\n  {why}: due {:?}, sent {:?}", drives(expected.due), drives(sent))
         });
         let difference = forbidden.or_else(|| answers_differ(&model, &tested));
-        self.judge((expected.refusal, number), difference, breach)
+        self.judge((expected.refusal, number), difference, breach, unsettled)
     }
 
     /// A page belongs to no share: it gives a drive nothing.
     fn page(&mut self, bytes: usize, cover: Option<&mut HallCover>) -> Result<(), Failure> {
-        let lent = odd(bytes + LINE, |i| 0x80 | i as u8);
-        let (mut model, mut tested) = (lent.clone(), lent);
-        let expected = HallModel.page(&self.model[..self.drives], &mut model[..bytes]);
-        let number = self.hall.page(&self.tested[..self.drives], &mut tested[..bytes]);
+        let odd = odd(bytes + 2 * LINE, |i| 0x80 | i as u8);
+        let (mut model, mut tested) = (odd.clone(), odd);
+        let page = LINE..LINE + bytes;
+        let expected = HallModel.page(self.row(), &mut model[page.clone()]);
+        let number = self.hall.page(&self.tested[lent(self.drives)], &mut tested[page.clone()]);
         if let Some(cover) = cover {
-            cover.page(self.row(), expected, &model[..bytes]);
+            cover.page(self.row(), expected, &model[page]);
         }
-        self.judge((expected, number), lines_differ(self.row(), &model, &tested), Breach::default())
+        self.judge((expected, number), lines_differ(self.row(), &model, &tested), Breach::default(), false)
     }
 
     /// Each side's number, how what they filled differs, and the rows of drives: by field, that is, every
@@ -232,22 +301,28 @@ impl<'h, H: Hall + ?Sized> Pair<'h, H> {
         (expected, number): (u8, u8),
         difference: Option<String>,
         breach: Breach,
+        unsettled: bool,
     ) -> Result<(), Failure> {
         let same = number == expected && difference.is_none() && self.tested == self.model;
-        if (same || self.ask == Ask::Demand3) && breach.none() {
+        if (same || !self.asks(Ask::Equality)) && breach.none() && !unsettled {
             return Ok(());
         }
         let mut text = format!("model {expected}, subject {number}");
         if let Some(difference) = difference {
             text += &difference;
         }
-        let drive = (0..self.model.len()).find(|&i| self.model[i] != self.tested[i]);
-        if let Some(i) = drive {
-            text += &format!("\n  drive {i}: model   {:?}", self.model[i]);
-            text += &format!("\n  drive {i}: subject {:?}", self.tested[i]);
+        let place = (0..self.model.len()).find(|&place| self.model[place] != self.tested[place]);
+        let drive = place.and_then(|place| place.checked_sub(1));
+        if let Some(place) = place {
+            let i = place as i64 - 1;
+            text += &format!("\n  drive {i}: model   {:?}", self.model[place]);
+            text += &format!("\n  drive {i}: subject {:?}", self.tested[place]);
         }
         if !breach.none() {
             text += &format!("\n  demand 3 fails in: {breach}");
+        }
+        if unsettled {
+            text += "\n  W-207 fails";
         }
         Err(Failure { text, drive, breach })
     }
@@ -290,6 +365,7 @@ fn first_failure<H: Hall + ?Sized>(
                     cover.share(turn.count() > 0);
                 }
             }
+            pair.watches.iter_mut().for_each(|watch| watch.end_of_list(&mut cover.settling));
         }
     }
     Ok(done)
@@ -302,9 +378,9 @@ pub fn halls<H: Hall + ?Sized>(
     calls: u64,
     cover: &mut HallCover,
 ) -> Result<u64, Finding> {
-    first_failure(hall, seed, calls, Ask::Both, Some(cover)).map_err(|Failed { row, calls, .. }| {
+    first_failure(hall, seed, calls, Ask::All, Some(cover)).map_err(|Failed { row, calls, .. }| {
         let failure_on = |calls: &[Call]| {
-            let mut pair = Pair::new(hall, Ask::Both, &row);
+            let mut pair = Pair::new(hall, Ask::All, &row);
             calls.iter().enumerate().find_map(|(i, call)| Some((i, pair.call(call, None).err()?)))
         };
         let short = shorten(calls, 1_000_000, |calls| Some(failure_on(calls)?.0));

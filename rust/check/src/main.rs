@@ -1,5 +1,5 @@
-//! `damper-check` runs all comparisons of the proved drive and hall with the second implementation.
-//! `damper-check compare EVENTS STEPS SEED` the same, with these numbers and this seed alone.
+//! `damper-check` runs all comparisons of the proved drive and hall with the second implementation, by fixed seeds.
+//! `damper-check compare EVENTS STEPS SEED` the same by hand, with these numbers and this seed alone.
 //! `damper-check bench PROGRAM` prints times, PROGRAM being the proved `drive`.
 //! `damper-check spend proved|model|plain|none mixed|ticks N` replays N records once, and
 //! `damper-check spend proved|model|plain|none hall|backup|list|page N` ticks N drives in halls of 64, any
@@ -11,26 +11,21 @@
 use damper_check::bench;
 use damper_check::gen;
 use damper_check::model::Model;
-use damper_check::proved::Proved;
 use damper_check::subject::Subject;
 use damper_check::suite;
 use std::io::{self, BufReader, BufWriter, Read, Write};
 use std::path::Path;
 use std::process::ExitCode;
-use std::time::{SystemTime, UNIX_EPOCH};
 
 const USAGE: &str = "compare EVENTS STEPS SEED | bench PROGRAM | spend WHO WHAT N | drive | gen N SEED";
-const FIXED_SEED: u64 = 0x5AC3;
-const EVENTS: u64 = 20_000_000;
-const STEPS: u64 = 5_000_000;
 
 fn main() -> ExitCode {
     let args: Vec<String> = std::env::args().skip(1).collect();
     let words: Vec<&str> = args.iter().map(String::as_str).collect();
     let numbers: Option<Vec<u64>> = words.iter().skip(1).map(|word| word.parse().ok()).collect();
     let passed = match (words.first(), numbers.as_deref()) {
-        (None, _) => suite::run(&Proved, EVENTS, STEPS, &[FIXED_SEED, clock_seed()]),
-        (Some(&"compare"), Some(&[events, steps, seed])) => suite::run(&Proved, events, steps, &[seed]),
+        (None, _) => suite::gate(),
+        (Some(&"compare"), Some(&[events, steps, seed])) => suite::by_hand(events, steps, seed),
         (Some(&"bench"), None) if words.len() == 2 => finished(bench::run(Path::new(words[1]))),
         (Some(&"spend"), None) if words.len() == 4 => {
             bench::spend(words[1], words[2], words[3].parse().unwrap_or(0));
@@ -50,10 +45,6 @@ fn main() -> ExitCode {
     } else {
         ExitCode::FAILURE
     }
-}
-
-fn clock_seed() -> u64 {
-    SystemTime::now().duration_since(UNIX_EPOCH).map_or(0, |now| now.as_nanos() as u64)
 }
 
 fn finished(result: io::Result<()>) -> bool {

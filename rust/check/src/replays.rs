@@ -1,14 +1,16 @@
-//! The proved replay and the plain C one against the second implementation, step by step: lists with and
-//! without a short rest, rows of any length, and what the rows held before.
+//! A replay, as of the proved drive, against the second implementation, step by step: lists with and without a short
+//! rest, rows of any length, and what the rows held before.
 
 use crate::compare::Finding;
 use crate::gen::{records, Gen, Rng};
 use crate::model::Model;
-use crate::plain::Plain;
 use crate::subject::Subject;
 use damper::Drive;
 
-/// The proved drive's replay: the drive after as many records as both rows have room for, and their count.
+/// The drive after as many records as both rows have room for, and their count.
+pub type Replay = fn(Drive, &[u8], &mut [u8], &mut [u32]) -> (Drive, usize);
+
+/// The proved drive's replay.
 pub fn proved_replay(mut drive: Drive, bytes: &[u8], words: &mut [u8], codes: &mut [u32]) -> (Drive, usize) {
     let count = drive.replay(bytes, words, codes);
     (drive, count)
@@ -27,8 +29,8 @@ pub fn model_replay(drive: Drive, bytes: &[u8], words: &mut [u8], codes: &mut [u
     (record, count)
 }
 
-/// Gives the number of records, or the first list on which two of them differ.
-pub fn replays(seed: u64, lists: u32) -> Result<u64, Finding> {
+/// Gives the number of records, or the first list on which the two differ.
+pub fn replays(replay: Replay, seed: u64, lists: u32) -> Result<u64, Finding> {
     let mut rng = Rng::new(seed);
     let mut gen = Gen::new(seed);
     let mut total = 0;
@@ -45,27 +47,26 @@ pub fn replays(seed: u64, lists: u32) -> Result<u64, Finding> {
             words.resize(room as usize, 0xEE);
             codes.resize(room as usize, 0xEEEE_EEEE);
         }
-        let proved = on_rows(&words, &codes, |words, codes| proved_replay(start, &bytes, words, codes));
-        let second = on_rows(&words, &codes, |words, codes| model_replay(start, &bytes, words, codes));
-        let plain = on_rows(&words, &codes, |words, codes| Plain.replay(start, &bytes, words, codes));
-        if proved != second || plain != second {
-            let text = format!(
-                "{bytes:02X?} from {start:?}: proved {proved:?}, second {second:?}, plain C {plain:?}"
-            );
+        let model = on_rows(model_replay, start, &bytes, &words, &codes);
+        let tested = on_rows(replay, start, &bytes, &words, &codes);
+        if model != tested {
+            let text = format!("{bytes:02X?} from {start:?}: model {model:?}, subject {tested:?}");
             return Err(Finding { place: format!("seed {seed}, list {list}"), text });
         }
-        total += proved.1 as u64;
+        total += model.1 as u64;
     }
     Ok(total)
 }
 
 /// The drive after a replay, its count, and what it made of these rows.
 fn on_rows(
+    replay: Replay,
+    start: Drive,
+    bytes: &[u8],
     words: &[u8],
     codes: &[u32],
-    replay: impl FnOnce(&mut [u8], &mut [u32]) -> (Drive, usize),
 ) -> (Drive, usize, Vec<u8>, Vec<u32>) {
     let (mut words, mut codes) = (words.to_vec(), codes.to_vec());
-    let (after, count) = replay(&mut words, &mut codes);
+    let (after, count) = replay(start, bytes, &mut words, &mut codes);
     (after, count, words, codes)
 }

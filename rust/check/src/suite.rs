@@ -1,164 +1,147 @@
-//! All comparisons of a subject, printed.
+//! All comparisons of the proved drive and hall, on as many threads as there are cores, printed.
 
 use crate::audits::{audits, AuditCover};
-use crate::catch::catch;
 use crate::compare::{self, Finding};
 use crate::cover::Cover;
 use crate::halls::cover::HallCover;
-use crate::halls::{self, halls};
-use crate::replays::replays;
-use crate::settle::{self, cover::SettleCover};
-use crate::subject::{Hall, Subject};
-use crate::wrong;
+use crate::halls::halls;
+use crate::proved::Proved;
+use crate::replays::{proved_replay, replays};
+use crate::settle;
+use std::sync::Mutex;
+use std::thread;
 use std::time::Instant;
 
-/// A count of `Cover`, `HallCover`, `SettleCover` or `AuditCover` below this is a failure.
-const LEAST_COVER: u64 = 1_000;
-/// One hall tick that is not refused, at least, for as many events on lists.
-const EVENTS_A_HALL_TICK: u64 = 40;
+/// Of the gate: with these every count is above `LEAST_COUNT`.
+const SEEDS: [u64; 2] = [0x5AC3, 0xC35A];
+const EVENTS: u64 = 20_000_000;
+const STEPS: u64 = 5_000_000;
+const LEAST_COUNT: u64 = 1_000;
+/// What the gate has to reach, where that is more.
+const LEAST: [(&str, u64); 3] =
+    [("hall tick given", 1_000_000), ("W-207 in steps: all", 500_000), ("W-207 in halls: all", 500_000)];
+
 /// Lists that are replayed.
 const REPLAYS: u32 = 20_000;
-/// Events and steps for each wrong drive.
-const CATCH_WITHIN: u64 = 300_000;
-/// Calls for each wrong hall.
-const CATCH_HALL_WITHIN: u64 = 100_000;
-/// Events on lists for each hall call.
+/// Events on lists for each hall call, and for each record that is audited.
 const EVENTS_A_CALL: u64 = 8;
-/// Events on lists for each record that is audited.
 const EVENTS_AN_AUDIT: u64 = 4;
-/// Events on lists for each stretch of W-207 in single steps, for each hall with such stretches, and for each
-/// stretch that meets the conditions, at least.
-const EVENTS_A_STRETCH: u64 = 30;
-const EVENTS_A_SETTLING_HALL: u64 = 200;
-const EVENTS_A_STRETCH_MET: u64 = 40;
-/// Stretches in single steps, and halls, for each wording of W-207 and each drive that it has to catch.
-const SETTLE_WITHIN: u64 = 20_000;
-const SETTLE_HALLS_WITHIN: u64 = 20_000;
 
-/// True if all pass. Each seed gets this many events on lists and single steps.
-pub fn run<S: Subject + Hall + ?Sized>(subject: &S, events: u64, steps: u64, seeds: &[u64]) -> bool {
-    let (mut cover, mut hall_cover) = (Cover::default(), HallCover::default());
-    let (mut settle_cover, mut audit_cover) = (SettleCover::default(), AuditCover::default());
-    let mut passed = true;
-    for &seed in seeds {
-        passed &= part(&format!("lists, seed {seed}"), || compare::lists(subject, seed, events, &mut cover));
-        passed &= part(&format!("single steps, seed {seed}"), || {
-            compare::singles(subject, seed, steps, &mut cover)
-        });
+/// How often each case was met, by name.
+type Counts = Vec<(String, u64)>;
+
+/// How many agree, or where two differ; and what was met.
+type Outcome = (Result<u64, Finding>, Counts);
+
+struct Part {
+    name: String,
+    run: Box<dyn FnOnce() -> Outcome + Send>,
+}
+
+fn part(name: &str, seed: u64, run: impl FnOnce() -> Outcome + Send + 'static) -> Part {
+    Part { name: format!("{name}, seed {seed}"), run: Box::new(run) }
+}
+
+/// The gate: fixed seeds, and every count has to be high enough.
+pub fn gate() -> bool {
+    let (passed, counts) = compared(EVENTS, STEPS, &SEEDS);
+    let asked = |name: &str| LEAST.iter().find(|least| least.0 == name).map_or(LEAST_COUNT, |least| least.1);
+    let low: Vec<_> = counts.iter().filter(|(name, count)| *count < asked(name)).collect();
+    for (name, count) in &low {
+        println!("met too seldom: {name}: {count}");
     }
-    for &seed in seeds {
-        passed &= part(&format!("replay, seed {seed}"), || replays(seed, REPLAYS));
+    let (name, count) = counts.iter().min_by_key(|(_, count)| *count).expect("counts");
+    println!("{} cases met, the least often {name}: {count}", counts.len());
+    verdict(passed && low.is_empty())
+}
+
+/// By hand: any seed. What was met is listed, and not judged.
+pub fn by_hand(events: u64, steps: u64, seed: u64) -> bool {
+    let (passed, counts) = compared(events, steps, &[seed]);
+    for (name, count) in counts {
+        println!("  {name}: {count}");
     }
-    for &seed in seeds {
-        passed &= part(&format!("hall calls, seed {seed}"), || {
-            halls(subject, seed, events / EVENTS_A_CALL, &mut hall_cover)
-        });
-    }
-    for &seed in seeds {
-        passed &= part(&format!("W-207 in single steps, seed {seed}"), || {
-            settle::steps(subject, seed, events / EVENTS_A_STRETCH, &mut settle_cover)
-        });
-        passed &= part(&format!("W-207 in halls, seed {seed}"), || {
-            settle::halls(subject, seed, events / EVENTS_A_SETTLING_HALL, &mut settle_cover)
-        });
-    }
-    for &seed in seeds {
-        passed &= part(&format!("audit and outlook, seed {seed}"), || {
-            audits(seed, events / EVENTS_AN_AUDIT, &mut audit_cover)
-        });
-    }
-    passed &= part("reader and writer", || compare::bytes(subject, false));
-    passed &= part("fixed lists", || compare::fixed(subject));
-    passed &= part("false wordings of demand 3", || compare::false_wordings(subject));
-    passed &= part("fixed stretches of W-207", || settle::cases::fixed(subject));
-    passed &= part("whole ways of W-207", || settle::cases::whole_ways(subject));
-    passed &= wordings_of_w_207(subject, seeds[0]);
-    passed &= wrong_drives(seeds[0]);
-    passed &= wrong_halls(seeds[0]);
-    passed &= wrong_of_w_207(seeds[0]);
-    passed &= covered("met", cover.counts());
-    passed &= covered("met in halls", hall_cover.counts());
-    passed &= covered("stretches of W-207", settle_cover.counts());
-    passed &= covered("audit and outlook", audit_cover.counts());
-    let hall_ticks = events * seeds.len() as u64 / EVENTS_A_HALL_TICK;
-    if hall_cover.hall_ticks() < hall_ticks {
-        println!("fewer than {hall_ticks} hall ticks");
-        passed = false;
-    }
-    let (steps, halls) = (settle_cover.met_in_steps(), settle_cover.met_in_halls());
-    println!("stretches of W-207: {} judged, {halls} of them in halls", steps + halls);
-    if steps + halls < events * seeds.len() as u64 / EVENTS_A_STRETCH_MET {
-        println!("too few stretches of W-207");
-        passed = false;
-    }
+    verdict(passed)
+}
+
+fn verdict(passed: bool) -> bool {
     println!("{}", if passed { "all passed" } else { "FAILED" });
     passed
 }
 
-fn part(name: &str, run: impl FnOnce() -> Result<u64, Finding>) -> bool {
-    let start = Instant::now();
-    let result = run();
-    let seconds = start.elapsed().as_secs_f64();
-    match &result {
-        Ok(count) => println!("{name}: {count} agree, {seconds:.1} s"),
-        Err(finding) => println!("{name}: FAILED\n  {finding}"),
+/// Whether all agree, and what was met. Each seed gets this many events on lists and single steps.
+fn compared(events: u64, steps: u64, seeds: &[u64]) -> (bool, Counts) {
+    let of_seed = |&seed| parts(events, steps, seed).into_iter().enumerate();
+    let mut parts: Vec<_> = seeds.iter().flat_map(of_seed).collect();
+    parts.sort_by_key(|(place, _)| *place);
+    let mut parts: Vec<_> = parts.into_iter().map(|(_, part)| part).collect();
+    parts.push(Part { name: "reader, writer and fixed lists".to_string(), run: Box::new(fixed) });
+    let outcomes: Vec<Mutex<Option<Outcome>>> = parts.iter().map(|_| Mutex::new(None)).collect();
+    let queue = Mutex::new(parts.into_iter().zip(&outcomes));
+    let work = || loop {
+        let next = queue.lock().expect("the queue").next();
+        let Some((part, outcome)) = next else { break };
+        let start = Instant::now();
+        let ran = (part.run)();
+        let seconds = start.elapsed().as_secs_f64();
+        match &ran.0 {
+            Ok(count) => println!("{}: {count} agree, {seconds:.1} s", part.name),
+            Err(finding) => println!("{}: FAILED\n  {finding}", part.name),
+        }
+        *outcome.lock().expect("an outcome") = Some(ran);
+    };
+    thread::scope(|scope| {
+        for _ in 0..thread::available_parallelism().map_or(1, usize::from) {
+            scope.spawn(work);
+        }
+    });
+    let mut passed = true;
+    // The sum of the least counts of several parts is no more than the least of their sums.
+    let mut counts: Counts = Vec::new();
+    for outcome in outcomes {
+        let (result, met) = outcome.into_inner().expect("an outcome").expect("every part has run");
+        passed &= result.is_ok();
+        for (name, count) in met {
+            match counts.iter_mut().find(|(counted, _)| *counted == name) {
+                Some((_, sum)) => *sum += count,
+                None => counts.push((name, count)),
+            }
+        }
     }
-    result.is_ok()
+    (passed, counts)
 }
 
-fn wrong_drives(seed: u64) -> bool {
-    let mut all = true;
-    for wrong in wrong::all() {
-        let caught = catch(wrong.drive, seed, CATCH_WITHIN);
-        println!("wrong drive {}: {caught}", wrong.name);
-        all &= caught.anywhere();
-    }
-    all
+/// The comparisons by a seed, the longest first.
+fn parts(events: u64, steps: u64, seed: u64) -> Vec<Part> {
+    vec![
+        part("hall calls", seed, move || {
+            let mut cover = HallCover::default();
+            (halls(&Proved, seed, events / EVENTS_A_CALL, &mut cover), cover.counts())
+        }),
+        part("events on lists", seed, move || {
+            let mut cover = Cover::default();
+            (compare::lists(&Proved, seed, events, &mut cover), cover.counts())
+        }),
+        part("audit and outlook", seed, move || {
+            let mut cover = AuditCover::default();
+            (audits(seed, events / EVENTS_AN_AUDIT, &mut cover), cover.counts())
+        }),
+        part("single steps", seed, move || {
+            let mut cover = Cover::default();
+            (compare::singles(&Proved, seed, steps, &mut cover), cover.counts())
+        }),
+        part("replay", seed, move || (replays(proved_replay, seed, REPLAYS), Vec::new())),
+    ]
 }
 
-fn wrong_halls(seed: u64) -> bool {
-    let mut all = true;
-    for wrong in halls::wrong::ALL {
-        let caught = halls::wrong::catch(wrong.hall, seed, CATCH_HALL_WITHIN);
-        println!("wrong hall {}: {caught}", wrong.name);
-        all &= caught.anywhere();
-    }
-    all
-}
-
-/// Each false wording has to be found broken, and a true one not.
-fn wordings_of_w_207<S: Subject + Hall + ?Sized>(subject: &S, seed: u64) -> bool {
-    let mut all = true;
-    for wording in settle::wordings::ALL {
-        let caught = settle::catch(subject, wording.judge, seed, SETTLE_WITHIN, SETTLE_HALLS_WITHIN);
-        let (kind, found) =
-            if wording.is_true() { ("true", !caught.by_any()) } else { ("false", caught.by_both()) };
-        println!("{kind} wording of W-207 {}: {caught}{}", wording.name, if found { "" } else { ": FAILED" });
-        all &= found;
-    }
-    all
-}
-
-fn wrong_of_w_207(seed: u64) -> bool {
-    let mut all = true;
-    for wrong in settle::wrong::ALL {
-        let caught = settle::catch(wrong, settle::claim::judge, seed, SETTLE_WITHIN, SETTLE_HALLS_WITHIN);
-        let found = wrong.caught(&caught);
-        println!("wrong drive of W-207 {}: {caught}{}", wrong.name, if found { "" } else { ": FAILED" });
-        all &= found;
-    }
-    all
-}
-
-fn covered(what: &str, counts: Vec<(String, u64)>) -> bool {
-    println!("{what}:");
-    for (name, count) in &counts {
-        println!("  {name}: {count}");
-    }
-    let mut all = true;
-    for (name, count) in counts.iter().filter(|(_, count)| *count < LEAST_COVER) {
-        println!("met too seldom: {name}: {count}");
-        all = false;
-    }
-    all
+/// What needs no seed.
+fn fixed() -> Outcome {
+    let all = || {
+        Ok(compare::bytes(&Proved, false)?
+            + compare::fixed(&Proved)?
+            + compare::false_wordings(&Proved)?
+            + settle::cases::fixed(&Proved)?
+            + settle::cases::whole_ways(&Proved)?)
+    };
+    (all(), Vec::new())
 }

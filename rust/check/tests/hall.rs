@@ -1,22 +1,18 @@
 //! The hall of document 02's W-201, the shift page of its W-203, the quota of its W-204 and the lists that its
-//! W-205 refuses: their corners by hand, on the proved hall and on the second implementation, and the
-//! comparison of the two in short.
+//! W-205 refuses: their corners by hand, on the proved hall and on the second implementation.
 
 use damper::{Answer, Commands, Drive, Last, Rank, Run};
 use damper_check::check::{Checker, Clause, Turn};
 use damper_check::gen::Gen;
 use damper_check::hall::{numbers_of, tick_sending, Drives, HallModel, LINE};
 use damper_check::halls::cover::HallCover;
-use damper_check::halls::{halls, wrong};
+use damper_check::halls::halls;
 use damper_check::model::Model;
-use damper_check::plain::Plain;
 use damper_check::proved::Proved;
 use damper_check::subject::{Hall, Subject};
 use damper_check::table::Param;
 
 const BOTH: [&dyn Hall; 2] = [&Proved, &HallModel];
-/// With the plain C hall, for pages, quotas and repeats.
-const THREE: [&dyn Hall; 3] = [&Proved, &HallModel, &Plain];
 
 const TICK: [u8; 6] = [0x5A, 0xC3, 1, 0, 0, 0];
 const SETPOINT: [u8; 6] = [0x5A, 0xC3, 2, 200, 0, 0];
@@ -75,46 +71,6 @@ fn rows_of_1_to_64() {
     }
 }
 
-/// A bad number is refused wherever it stands and whatever its low byte.
-#[test]
-fn numbers_that_are_no_drive() {
-    for hall in BOTH {
-        for bad in [8, 9, 256, 263, 65_536 + 7, 1 << 31, u32::MAX] {
-            for entries in [1, 2, 64, 65, 100, 300] {
-                for place in [0, entries / 2, entries - 1] {
-                    let mut list = vec![7; entries];
-                    list[place] = bad;
-                    for bytes in [SETPOINT, TICK] {
-                        for places in [0, entries, entries + 1] {
-                            assert_eq!(refused(hall, 8, &list, &bytes, places), 15);
-                        }
-                    }
-                }
-            }
-        }
-        assert_eq!(refused(hall, 64, &[64], &SETPOINT, 1), 15);
-        assert_eq!(refused(hall, 1, &[1], &SETPOINT, 1), 15);
-    }
-}
-
-#[test]
-fn calls_that_do_not_fit() {
-    for hall in BOTH {
-        assert_eq!(refused(hall, 3, &[], &TICK, 0), 16);
-        assert_eq!(refused(hall, 3, &[0], &TICK, 1), 16);
-        assert_eq!(event(hall, 64, &in_order(64), &SETPOINT, 64).0, 0);
-        assert_eq!(refused(hall, 3, &[1; 65], &SETPOINT, 65), 16);
-        assert_eq!(refused(hall, 3, &[1; 257], &SETPOINT, 257), 16);
-        assert_eq!(refused(hall, 3, &[1, 2], &SETPOINT, 1), 16);
-        assert_eq!(refused(hall, 3, &[1], &SETPOINT, 0), 16);
-        for drives in [1, 3, 64] {
-            let (mut row, mut numbers) = (vec![Model.fresh(); drives], vec![7; drives - 1]);
-            assert_eq!(hall.tick(&mut row, 64, &mut numbers), 16);
-            assert_eq!((row, numbers), (vec![Model.fresh(); drives], vec![7; drives - 1]));
-        }
-    }
-}
-
 /// "14 to 16 come before 1 to 13, in this order"
 #[test]
 fn the_first_that_fits() {
@@ -133,39 +89,6 @@ fn the_first_that_fits() {
         let (mut row, mut answers) = ([broken()], []);
         assert_eq!(hall.event(&mut row, &[0], &[], &mut answers), 16);
         assert_eq!(row, [broken()]);
-    }
-}
-
-/// A damaged tick is no tick: it goes to each drive and is refused there.
-#[test]
-fn damaged_ticks() {
-    let damaged: [(&[u8], u8); 6] = [
-        (&[0x5A, 0xC3, 1, 0, 0], 2),
-        (&[0x5A, 0xC3, 1, 0, 0, 0, 0], 2),
-        (&[0x5A, 0xC2, 1, 0, 0, 0], 3),
-        (&[0x5A, 0xC3, 1, 1, 0, 0], 5),
-        (&[0x5A, 0xC3, 1, 0, 1, 0], 5),
-        (&[0x5A, 0xC3, 1, 0, 0, 1], 5),
-    ];
-    for hall in BOTH {
-        for (bytes, refusal) in damaged {
-            let (mut row, mut answers) = ([Model.fresh(), broken()], [0xEE; 3]);
-            assert_eq!(hall.event(&mut row, &[1, 0], bytes, &mut answers), 0);
-            assert_eq!((row, answers), ([Model.fresh(), broken()], [1, refusal, 0xEE]));
-            assert_eq!(hall.event(&mut row, &[], bytes, &mut answers), 0);
-        }
-    }
-}
-
-#[test]
-fn empty_list() {
-    for hall in BOTH {
-        for places in [0, 1, 5] {
-            assert_eq!(
-                event(hall, 2, &[], &SETPOINT, places),
-                (0, vec![Model.fresh(); 2], vec![0xEE; places])
-            );
-        }
     }
 }
 
@@ -216,15 +139,10 @@ fn tick_numbers() {
     }
 }
 
-/// The drives 0 to n - 1.
-fn in_order(n: u32) -> Vec<u32> {
-    (0..n).collect()
-}
-
 /// "19 when a list names a drive twice, checked after 16, nothing touched"
 #[test]
 fn a_drive_named_twice() {
-    for hall in THREE {
+    for hall in BOTH {
         for list in [&[7, 7][..], &[7, 3, 7], &[3, 7, 7], &[7, 7, 3], &[0, 7, 3, 0], &[1, 2, 3, 2, 4]] {
             for bytes in [&SETPOINT[..], &CALIBRATION, &READ, &RESTART, &TICK[..5], &[]] {
                 for places in [list.len(), list.len() + 1, 64, 300] {
@@ -246,29 +164,10 @@ fn a_drive_named_twice() {
     }
 }
 
-/// Any two of the entries, in lists of each length, and no other two.
-#[test]
-fn one_pair_of_entries() {
-    let mut gen = Gen::new(11);
-    for hall in THREE {
-        for entries in 2..=64 {
-            let list = some_order(&mut gen, 64, entries);
-            assert_eq!(event(hall, 64, &list, &SETPOINT, entries).0, 0);
-            for again in 1..entries {
-                for place in 0..again {
-                    let mut list = list.clone();
-                    list[again] = list[place];
-                    assert_eq!(refused(hall, 64, &list, &SETPOINT, entries), 19, "{list:?}");
-                }
-            }
-        }
-    }
-}
-
 /// 14, 15 and 16 come before 19, and what a drive says comes after it.
 #[test]
 fn a_drive_named_twice_beside_others() {
-    for hall in THREE {
+    for hall in BOTH {
         for list in [&[1, 1][..], &[1, 0, 1], &[0, 1, 1], &[1; 64]] {
             let places = list.len();
             for drives in [0, 65, 66, 256, 320] {
@@ -292,86 +191,8 @@ fn a_drive_named_twice_beside_others() {
             }
         }
         // 65 entries, of which one alone repeats, and 300.
-        for list in [[in_order(64), vec![0]].concat(), [vec![63], in_order(64)].concat(), vec![0; 300]] {
+        for list in [(0..64).chain([0]).collect::<Vec<_>>(), vec![0; 300]] {
             assert_eq!(refused(hall, 64, &list, &SETPOINT, list.len()), 16);
-        }
-    }
-}
-
-/// Nothing and a single number are no repeat, nor are numbers that agree in some of their bits.
-#[test]
-fn lists_without_repeats() {
-    for hall in THREE {
-        for drives in [1, 2, 64] {
-            assert_eq!(event(hall, drives, &[], &SETPOINT, 0).0, 0);
-            for number in 0..drives as u32 {
-                assert_eq!(event(hall, drives, &[number], &SETPOINT, 1).0, 0);
-            }
-        }
-        for one in 0..64 {
-            for other in (0..64).filter(|other| *other != one) {
-                let (number, row, answers) = event(hall, 64, &[one, other], &SETPOINT, 2);
-                assert_eq!((number, answers), (0, vec![0, 0]));
-                let given = |i: &u32| row[*i as usize].commands.stored == 1;
-                assert!((0..64).filter(given).eq([one.min(other), one.max(other)]));
-            }
-        }
-    }
-}
-
-/// So many of the drives of a row, each once, in any order.
-fn some_order(gen: &mut Gen, drives: u32, entries: usize) -> Vec<u32> {
-    let mut list = shuffled(gen, &in_order(drives));
-    list.truncate(entries);
-    list
-}
-
-fn shuffled(gen: &mut Gen, list: &[u32]) -> Vec<u32> {
-    let mut list = list.to_vec();
-    for k in (1..list.len()).rev() {
-        list.swap(k, gen.rng.below(k as u32 + 1) as usize);
-    }
-    list
-}
-
-/// All orders of a list.
-fn orders(list: &[u32]) -> Vec<Vec<u32>> {
-    if list.is_empty() {
-        return vec![Vec::new()];
-    }
-    let without = |k: usize| [&list[..k], &list[k + 1..]].concat();
-    let first = |k: usize| orders(&without(k)).into_iter().map(move |rest| [&list[k..=k], &rest].concat());
-    (0..list.len()).flat_map(first).collect()
-}
-
-/// Of a list without repeats every order leaves the same row: each named drive is what the event makes of its
-/// record from before the call, the others are as they were, and each answer is that of this single event.
-#[test]
-fn the_order_of_a_list() {
-    let mut gen = Gen::new(12);
-    for round in 0..600 {
-        let drives = if round % 4 == 0 { 64 } else { 1 + gen.rng.below(64) };
-        let before: Vec<_> = (0..drives).map(|_| gen.any_record().1).collect();
-        let entries = 1 + gen.rng.below(if round % 2 == 0 { drives.min(5) } else { drives }) as usize;
-        let list = some_order(&mut gen, drives, entries);
-        let any_orders = |gen: &mut Gen| (0..20).map(|_| shuffled(gen, &list)).collect();
-        let lists = if entries <= 5 { orders(&list) } else { any_orders(&mut gen) };
-        let bytes = gen.listed(&before[list[0] as usize]);
-        let single = |number: u32| Model.step(&before[number as usize], bytes.as_slice());
-        let expected: Vec<_> =
-            (0..drives).map(|i| if list.contains(&i) { single(i).1 } else { before[i as usize] }).collect();
-        for (list, hall) in lists.iter().flat_map(|list| THREE.map(|hall| (list, hall))) {
-            let (mut row, mut answers) = (before.clone(), vec![0xEE; entries + 1]);
-            assert_eq!(hall.event(&mut row, list, bytes.as_slice(), &mut answers), 0);
-            assert_eq!(row, expected, "{list:?}");
-            for (&number, answer) in list.iter().zip(&answers) {
-                let refusal = match single(number).0 {
-                    Answer::Refused(refusal) => refusal.number(),
-                    _ => 0,
-                };
-                assert_eq!(*answer, refusal, "{list:?}");
-            }
-            assert_eq!(answers[entries], 0xEE);
         }
     }
 }
@@ -423,7 +244,7 @@ fn waits(row: &[Drive]) -> Vec<u16> {
 fn quotas_of_1_to_64() {
     let quotas =
         [0, 65, 66, 128, 255, 256, 257, 320, 65_535, 65_536, 65_537, 1 << 24 | 1, 1 << 31 | 1, u32::MAX];
-    for hall in THREE {
+    for hall in BOTH {
         for quota in quotas {
             let tick = |drives: usize, places: usize| {
                 let (mut row, mut numbers) = (vec![waiting(9); drives], vec![7; places]);
@@ -463,7 +284,7 @@ fn the_one_that_waited_longest() {
         (&[65_534, 65_535, 65_535], 1),
         (&[65_535, 65_535], 0),
     ];
-    for hall in THREE {
+    for hall in BOTH {
         for (before, goes) in rows {
             let mut row: Vec<_> = before.iter().map(|&wait| waiting(wait)).collect();
             assert_eq!(sent(hall, &mut row, 1), [goes], "{before:?}");
@@ -495,7 +316,7 @@ fn what_a_hall_tick_leaves() {
         Drive { wait: 500, since: 3, ..Model.fresh() },
         Drive { wait: 600, since: 3, ..broken() },
     ];
-    for hall in THREE {
+    for hall in BOTH {
         let (mut row, mut numbers) = (before, [7; 5]);
         assert_eq!(hall.tick(&mut row, 1, &mut numbers), 0);
         assert_eq!(numbers, [0, 65_536 + 256 * 25 + 34, 0, 1, 7]);
@@ -532,7 +353,7 @@ fn what_changes_the_wait() {
         for wait in [1, 65_535] {
             let bytes = [[0x5A, 0xC3].as_slice(), &event].concat();
             let kept = if event == [9, 0, 0, 0] { 0 } else { wait };
-            for hall in THREE {
+            for hall in BOTH {
                 let (mut row, mut answers) = ([waiting(wait), Drive { wait, ..broken() }], [7; 2]);
                 assert_eq!(hall.event(&mut row, &[0, 1], &bytes, &mut answers), 0);
                 assert_eq!((answers[0] == 0, answers[1]), (accepted, 1), "{event:?}");
@@ -545,28 +366,12 @@ fn what_changes_the_wait() {
     }
 }
 
-/// The tick of a single drive reports and leaves the wait.
-#[test]
-fn a_single_tick_leaves_the_wait() {
-    for subject in [&Proved as &dyn Subject, &Model] {
-        for wait in [0, 5, 65_535] {
-            for drive in [waiting(wait), Drive { wait, ..Model.fresh() }] {
-                let (answer, after) = subject.step(&drive, &TICK);
-                let due = drive.params[Param::MinRepTime as usize] == 1;
-                assert!(matches!(answer, Answer::Tick { report, .. } if report.is_some() == due));
-                assert_eq!(after.wait, wait);
-            }
-        }
-    }
-    assert_eq!((Proved.fresh().wait, Model.fresh().wait, Plain.fresh().wait), (0, 0, 0));
-}
-
 /// With quota 1 and all drives due always, each goes once in as many hall ticks as there are drives, whatever
 /// the waits were at first.
 #[test]
 fn each_has_its_turn() {
     let mut gen = Gen::new(5);
-    for hall in THREE {
+    for hall in BOTH {
         for drives in 1..=64 {
             let mut row: Vec<_> = (0..drives).map(|_| waiting(gen.wait())).collect();
             let mut went: Vec<_> = (0..drives).flat_map(|_| sent(hall, &mut row, 1)).collect();
@@ -770,7 +575,7 @@ fn a_row_of_three_in_bytes() {
         (given[drive][32], given[drive][33]) = (1, 200);
     }
     let page = b" 0  15   6 hand     00000010\n 1 --- --- -------- --------\n 2 217  85 forced   00010000\n";
-    for hall in [&Proved as &dyn Hall, &Plain] {
+    for hall in [&Proved as &dyn Hall, &HallModel] {
         let mut memory: Vec<u16> =
             records.concat().chunks(2).map(|pair| u16::from_ne_bytes([pair[0], pair[1]])).collect();
         // The two bytes of each record that no field has are left out.
@@ -798,9 +603,6 @@ fn a_row_of_three_in_bytes() {
         assert_eq!(shown.escape_ascii().to_string(), page.escape_ascii().to_string());
         same(&memory, given);
     }
-    let mut row = [records[0], records[1], records[2]].map(Drive::from_bytes);
-    assert_eq!(HallModel.tick(&mut row, 1, &mut [0; 3]), 0);
-    assert_eq!(row.map(|drive| drive.to_bytes()), [after[0], after[1], after[2]]);
 }
 
 /// A page of so many bytes, each of them other than a line's, after a call that leaves the row and what is
@@ -821,7 +623,7 @@ fn odd_page(bytes: usize) -> Vec<u8> {
 /// The page is these lines, also with other bytes behind them.
 fn shows(row: &[Drive], lines: &[&[u8]]) {
     let lines = lines.concat();
-    for hall in THREE {
+    for hall in BOTH {
         for further in [0, 1, 28, 29, 30, 3000] {
             let (number, page) = page(hall, row, lines.len() + further);
             assert_eq!(number, 0);
@@ -883,15 +685,6 @@ fn a_page() {
     );
 }
 
-/// As a page of one drive, and of one that is not well formed.
-#[test]
-fn pages_of_one() {
-    shows(&[Model.fresh()], &[b" 0   0   0 backup   00100000\n"]);
-    shows(&[broken()], &[b" 0 --- --- -------- --------\n"]);
-    shows(&[Drive::from_bytes([0xEE; 46])], &[b" 0 --- --- -------- --------\n"]);
-    shows(&[Drive::from_bytes([0; 46])], &[b" 0 --- --- -------- --------\n"]);
-}
-
 /// The page says bus where age is Timeout, and the next tick is ruled by backup.
 #[test]
 fn a_page_is_of_the_record_as_it_is() {
@@ -924,23 +717,10 @@ fn a_page_of_64() {
     }
 }
 
-/// Each position beside the nearest percent, found by a search.
-#[test]
-fn positions_and_percents() {
-    for position in 0..=255 {
-        let distance = |percent: &i32| (100 * i32::from(position) - 255 * percent).abs();
-        let percent = (0..=100).min_by_key(distance).unwrap();
-        let in_3 = |digits: String| " ".repeat(3 - digits.len()) + &digits;
-        let (position_in_3, percent_in_3) = (in_3(position.to_string()), in_3(percent.to_string()));
-        let line = format!(" 0 {position_in_3} {percent_in_3} backup   00100000\n");
-        shows(&[at(position, NONE)], &[line.as_bytes()]);
-    }
-}
-
 /// "17 when the lent page is shorter than 29 bytes per drive, checked after 14, nothing written."
 #[test]
 fn pages_refused() {
-    for hall in THREE {
+    for hall in BOTH {
         for drives in [0, 65, 66, 128, 256, 257, 320] {
             let row = vec![Model.fresh(); drives];
             for bytes in [0, 1, 28 * drives, (29 * drives).saturating_sub(1), 29 * drives, 29 * drives + 1] {
@@ -956,92 +736,4 @@ fn pages_refused() {
         }
         assert_eq!(page(hall, &[broken(); 2], 2 * LINE - 1), (17, odd_page(2 * LINE - 1)));
     }
-}
-
-#[test]
-fn short_comparison() {
-    for seed in 1..4 {
-        for hall in [&Proved as &dyn Hall, &Plain] {
-            let compared = halls(hall, seed, 50_000, &mut HallCover::default());
-            assert!(compared.map_err(|finding| panic!("{finding}")).is_ok());
-        }
-    }
-}
-
-#[test]
-fn wrong_halls_are_caught() {
-    for wrong in wrong::ALL {
-        assert!(wrong::caught_by_calls(wrong.hall, 1, 60_000).is_some(), "{}", wrong.name);
-    }
-}
-
-/// Demand 3 of the shares finds these by itself.
-#[test]
-fn shares_break_demand_3() {
-    for name in [
-        "PlaceForNumber",
-        "LastDriveSkipped",
-        "RefusedEventGiven",
-        "RepeatSkipped",
-        "TwiceAfterGiving",
-        "TwiceGivenOnce",
-        "PositionAndStatusExchanged",
-    ] {
-        let wrong = wrong::ALL.iter().find(|wrong| wrong.name == name).unwrap();
-        assert!(wrong::catch(wrong.hall, 1, 20_000).by_demand_3.is_some(), "{name}");
-    }
-}
-
-/// The clause named finds each of these by itself, in one hall or another.
-#[test]
-fn clauses_of_halls_are_broken() {
-    for (name, clause) in [
-        ("LowestGoes", Clause::Turn),
-        ("ShortestGoes", Clause::Turn),
-        ("NeverTheLongest", Clause::Turn),
-        ("Drive0Starves", Clause::Turn),
-        ("LastDriveStarves", Clause::Turn),
-        ("BrokenTakesTurn", Clause::Turn),
-        ("NothingSent", Clause::Turn),
-        ("HeldNotCounted", Clause::Turn),
-        ("SentKeepsWait", Clause::Turn),
-        ("NotDueSent", Clause::OnlyDue),
-        ("SentNotStored", Clause::OnlyDue),
-        ("HeldResetsSince", Clause::Waiting),
-        ("HeldSinceNotRisen", Clause::Waiting),
-        ("SentKeepsSince", Clause::Spacing),
-        ("HeldNotAdvanced", Clause::Move),
-    ] {
-        let wrong = wrong::ALL.iter().find(|wrong| wrong.name == name).unwrap();
-        let found = |seed| wrong::catch(wrong.hall, seed, 60_000).by_demand_3;
-        assert!((1..30).filter_map(found).any(|(_, breach)| breach.has(clause)), "{name}");
-    }
-}
-
-/// What is printed for a wrong hall is short enough to read.
-#[test]
-fn findings_are_short() {
-    for name in ["LastDriveSkipped", "NumberCutToByte", "BrokenTicked"] {
-        let wrong = wrong::ALL.iter().find(|wrong| wrong.name == name).unwrap();
-        let finding = halls(wrong.hall, 1, 60_000, &mut HallCover::default()).expect_err("a finding");
-        let calls: usize = finding.text.split(' ').next().and_then(|n| n.parse().ok()).expect("a count");
-        assert!(calls < 10, "{finding}");
-    }
-}
-
-/// What is printed for a wrong page is the call, the two lines that differ, and the drive.
-#[test]
-fn findings_show_lines() {
-    let wrong = wrong::ALL.iter().find(|wrong| wrong.name == "CarriageReturn").unwrap();
-    let finding = halls(wrong.hall, 1, 60_000, &mut HallCover::default()).expect_err("a finding");
-    let lines: Vec<_> = finding.text.lines().collect();
-    let [calls, call, numbers, model, subject, drive] = lines[..] else { panic!("{finding}") };
-    assert!(calls.starts_with("1 calls on a hall of "), "{finding}");
-    assert!(call.starts_with("  page of "), "{finding}");
-    assert_eq!(numbers, "  model 0, subject 0");
-    let shown = model.strip_prefix("  line 0: model   ").and_then(|shown| shown.strip_suffix(r#"\n""#));
-    let shown = shown.unwrap_or_else(|| panic!("{finding}"));
-    assert!(shown.starts_with("\" 0 ") && shown.len() == 29, "{finding}");
-    assert_eq!(subject, format!(r#"  line 0: subject {shown}\r""#));
-    assert!(drive.starts_with("  drive 0: Drive { "), "{finding}");
 }

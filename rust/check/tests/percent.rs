@@ -1,6 +1,6 @@
 //! Document 02's W-202: the second implementation's two conversions against a search, and each percent and
-//! position through the proved drive and the plain C one beside it. Its W-206: which multiplications serve,
-//! by a search too, and each percent through the proved hall tick and the plain C one.
+//! position through the proved drive. Its W-206: which multiplications serve, by a search too, and each percent
+//! through the proved hall tick.
 
 use damper::{Answer, Drive};
 use damper_check::check::Checker;
@@ -10,7 +10,6 @@ use damper_check::hall::HallModel;
 use damper_check::literal;
 use damper_check::model::{percent_to_position, position_to_percent, Model};
 use damper_check::percents::WRONG;
-use damper_check::plain::Plain;
 use damper_check::proved::Proved;
 use damper_check::subject::{Hall, Subject};
 use damper_check::table::Param;
@@ -75,15 +74,13 @@ fn given(percent: u8) -> [([Bytes; 4], u8); 3] {
     ]
 }
 
-/// The last answer of the proved drive, the plain C one and the second implementation, which agree on each
-/// event in the answer and the whole record.
+/// The last answer of the proved drive and the second implementation, which agree on each event in the answer and
+/// the whole record.
 fn same(list: &[Bytes]) -> String {
     let (mut answer, mut record) = (Answer::Done, Model.fresh());
     for event in list {
         let expected = Model.step(&record, event.as_slice());
         assert_eq!(Proved.step(&record, event.as_slice()), expected, "{event:02X?} on {record:?}");
-        let mut plain = record;
-        assert_eq!((Plain.step(&mut plain, event.as_slice()), plain), expected, "{event:02X?} on {record:?}");
         (answer, record) = expected;
     }
     answer.to_string()
@@ -176,15 +173,10 @@ fn bits_of_the_product() {
     assert_eq!(2611 * 100 + 513, 261_613);
 }
 
-/// The setpoint that a normal write of a percent leaves.
-fn written(drive: &dyn Subject, percent: u8) -> u8 {
-    drive.step(&Model.fresh(), Bytes::event(3, 51, percent, 0).as_slice()).1.commands.setpoint
-}
-
 /// Where each wrong conversion goes wrong; the generator draws all percents of the first four often.
 #[test]
 fn percents_that_are_missed() {
-    let all: Vec<_> = WRONG.iter().map(|(_, drive)| missed(|percent| written(*drive, percent))).collect();
+    let all: Vec<_> = WRONG.iter().map(|(_, wrong)| missed(wrong)).collect();
     let [addend_476, addend_514, factor, shift, bits] = &all[..] else { panic!("{all:?}") };
     assert_eq!(addend_476, &[81]);
     assert_eq!(addend_514, &[10]);
@@ -197,8 +189,7 @@ fn percents_that_are_missed() {
     assert_eq!(often, (0..=100).filter(drawn).collect::<Vec<_>>());
 }
 
-/// The row and the numbers that one hall tick leaves: the same of the proved hall, the plain C one and the
-/// second implementation.
+/// The row and the numbers that one hall tick leaves: the same of the proved hall and the second implementation.
 fn same_tick(row: &[Drive]) -> (Vec<Drive>, Vec<u32>) {
     let ticked = |hall: &dyn Hall| {
         let (mut row, mut numbers) = (row.to_vec(), vec![7; row.len() + 1]);
@@ -207,7 +198,6 @@ fn same_tick(row: &[Drive]) -> (Vec<Drive>, Vec<u32>) {
     };
     let expected = ticked(&HallModel);
     assert_eq!(ticked(&Proved), expected);
-    assert_eq!(ticked(&Plain), expected);
     expected
 }
 

@@ -1,29 +1,25 @@
-//! Any bytes are a drive record: the proved drive, and the plain C one, beside the second implementation on
-//! every flag byte and on records of random bytes.
+//! Any bytes are a drive record: the proved drive beside the second implementation on every flag byte and on records
+//! of random bytes.
 
 use damper::{Answer, Commands, Drive, Last, Refusal, Run};
 use damper_check::flag::Flag;
 use damper_check::gen::{Bytes, Gen};
 use damper_check::model::Model;
-use damper_check::plain::Plain;
 use damper_check::proved::Proved;
 use damper_check::subject::Subject;
 
 /// A tick, a setpoint, a restart and a read.
 const EVENTS: [[u8; 4]; 4] = [[1, 0, 0, 0], [2, 128, 0, 0], [9, 0, 0, 0], [10, 0, 0, 0]];
 
-/// The three agree on a record, and give whether it is well formed.
+/// The two agree on a record, and give whether it is well formed.
 fn same(record: Drive) -> bool {
     let well_formed = Model.well_formed(&record);
     assert_eq!(Proved.well_formed(&record), well_formed, "{record:?}");
-    assert_eq!(Plain.well_formed(&record), well_formed, "{record:?}");
     for [kind, a, b, c] in EVENTS {
         let event = Bytes::event(kind, a, b, c);
         let expected = Model.step(&record, event.as_slice());
         assert_eq!(expected.0 == Answer::Refused(Refusal::Record), !well_formed, "{event:?} on {record:?}");
         assert_eq!(Proved.step(&record, event.as_slice()), expected, "{event:?} on {record:?}");
-        let mut plain = record;
-        assert_eq!((Plain.step(&mut plain, event.as_slice()), plain), expected, "{event:?} on {record:?}");
         if !well_formed {
             assert_eq!(expected.1, record);
         }
@@ -98,9 +94,8 @@ fn the_wait_in_bytes() {
 }
 
 #[test]
-fn the_fresh_drives_are_the_same() {
+fn the_fresh_drive() {
     assert_eq!(Proved.fresh(), Model.fresh());
-    assert_eq!(Plain.fresh(), Model.fresh());
 }
 
 /// A record with each byte in place of each flag: 2 to 255 are refused.

@@ -26,19 +26,14 @@ const ERRORS: [(&str, &str); 5] = [
 ];
 
 /// Wrong drives that no recording from fresh shows, and why.
-const UNSHOWN: [(&str, &str); 13] = [
+const UNSHOWN: [(&str, &str); 8] = [
     ("ReaderTakesMore", "the reader by itself"),
     ("WriterMarksFirst", "the writer by itself"),
     ("RefusedFlagMended", "records that are not well formed"),
     ("LowAboveHigh", "records that are not well formed"),
     ("AnyFlagSet", "records that are not well formed"),
-    ("FlagByLowestBit", "records that are not well formed"),
     ("RestartKeepsWait", "the wait of a hall's drive"),
     ("TickCountsWait", "the wait of a hall's drive"),
-    ("TickClearsWait", "the wait of a hall's drive"),
-    ("ReportClearsWait", "the wait of a hall's drive"),
-    ("SetpointClearsWait", "the wait of a hall's drive"),
-    ("WaitAsked", "the wait of a hall's drive"),
     ("FreshWaits", "the wait of a hall's drive"),
 ];
 
@@ -212,7 +207,7 @@ fn as_the_checkers(answers: &[(&[u8], Answer)], findings: &[Findings]) {
 fn every_wrong_drive() {
     let lists = random_lists(2, 40);
     let mut met = [false; Sentence::ALL.len()];
-    for wrong::Wrong { name, drive } in wrong::all() {
+    for wrong::Wrong { name, drive, .. } in wrong::ALL {
         let unshown = UNSHOWN.iter().any(|(unshown, _)| unshown == name);
         let mut found = false;
         let fixed = fixed_lists(*name == "CountsWrap");
@@ -232,17 +227,16 @@ fn every_wrong_drive() {
         assert_eq!(found, !unshown, "{name}");
     }
     assert_eq!(met, [true; Sentence::ALL.len()]);
-    assert!(UNSHOWN.iter().all(|(name, _)| wrong::all().any(|wrong| wrong.name == *name)));
+    assert!(UNSHOWN.iter().all(|(name, _)| wrong::ALL.iter().any(|wrong| wrong.name == *name)));
 }
 
 /// Drives that demand 3 alone admits, or that are out of its sight, are found all the same.
 #[test]
 fn found_beyond_demand_3() {
-    for name in ["PercentRoundedDown", "PercentRoundedUp", "NeverPeriodic", "PeriodGreater", "CovAsPosition"]
-    {
-        let lists = random_lists(2, 40);
-        let found = lists.iter().any(|events| {
-            let answers = answers_of(wrong::named(name), slices(events));
+    for name in ["PercentRoundedDown", "NeverPeriodic", "PeriodGreater", "CovAsPosition"] {
+        let mut lists = random_lists(2, 40).into_iter().chain(fixed_lists(false));
+        let found = lists.any(|events| {
+            let answers = answers_of(wrong::named(name), slices(&events));
             let mut checker = Checker::from_fresh();
             let positions = shown(&answers);
             let admits = |((bytes, answer), position): (&(&[u8], Answer), &u8)| {

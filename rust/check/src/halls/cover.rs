@@ -2,13 +2,11 @@
 
 use crate::check::Turn;
 use crate::event::Event;
-use crate::gen::Bytes;
 use crate::hall::{numbers_of, Drives, Ticked, LINE};
-use crate::model::Model;
-use crate::percents::{backup_value_reached, Percents};
-use crate::subject::Subject;
+use crate::percents::Percents;
+use crate::settle::cover::SettleCover;
 use crate::table::Param;
-use damper::{Answer, Drive, HallTick};
+use damper::{Drive, HallTick};
 use std::cmp::Ordering;
 
 macro_rules! counters {
@@ -21,20 +19,17 @@ macro_rules! counters {
             /// BackupValue where a hall tick by backup ends.
             backup: Percents,
             lines: Lines,
+            pub settling: SettleCover,
         }
 
         impl HallCover {
-            /// Hall ticks that were not refused.
-            pub fn hall_ticks(&self) -> u64 {
-                self.ticked
-            }
-
             /// Every count with its name.
             pub fn counts(&self) -> Vec<(String, u64)> {
                 let answers = (0..14).map(|n| (format!("answer {n}"), self.answers[n]));
                 let backup = self.backup.counts("as BackupValue where a hall tick by backup ends");
                 let named = [$(($text.to_string(), self.$name)),*];
-                answers.chain(named).chain(backup).chain(self.lines.counts()).collect()
+                let lines = self.lines.counts();
+                answers.chain(named).chain(backup).chain(lines).chain(self.settling.counts(true)).collect()
             }
         }
     };
@@ -339,14 +334,14 @@ impl HallCover {
     }
 
     /// A hall tick on a row: what it was refused by or 0 and which drives were due, its numbers, which drives
-    /// were sent, and the turns before it.
+    /// were sent, the row after it, and the turns before it.
     pub fn tick(
         &mut self,
         row: &[Drive],
         (quota, places): (u32, usize),
         ticked: &Ticked,
         (numbers, sent): (&[u32], Drives),
-        turns: &[Turn],
+        (after, turns): (&[Drive], &[Turn]),
     ) {
         let (drives, refusal) = (row.len(), ticked.refusal);
         let fits = (!(1..=64).contains(&drives), places < drives, !(1..=64).contains(&quota));
@@ -378,7 +373,9 @@ impl HallCover {
         add(&mut self.mixed_row, broken > 0 && broken < drives);
         self.choice(row, quota, ticked.due, numbers, sent);
         self.waits(row, ticked.due, numbers, sent);
-        self.backups(row);
+        for (i, drive) in row.iter().enumerate().filter(|(i, _)| numbers[*i] != 1) {
+            self.backup.tick(drive, after[i].position);
+        }
         for i in numbers_of(ticked.due) {
             let (goes, before) = (sent >> i & 1 == 1, turns[i].count());
             add(&mut self.held_again, !goes && before > 0);
@@ -439,19 +436,6 @@ impl HallCover {
             add(&mut self.wait_of_sent, goes && drive.wait > 0);
             add(&mut self.wait_of_broken, broken && drive.wait > 0);
             add(&mut self.wait_of_not_due, !is_due && !broken && drive.wait > 0);
-        }
-    }
-
-    /// Drives that a hall tick takes to their BackupValue, as a tick of their own would.
-    fn backups(&mut self, row: &[Drive]) {
-        let tick = Bytes::event(1, 0, 0, 0);
-        for drive in row {
-            let (Answer::Tick { rank, position, .. }, after) = Model.step(drive, tick.as_slice()) else {
-                continue;
-            };
-            if let Some(value) = backup_value_reached(drive, rank, position) {
-                self.backup.count(value, drive, tick.as_slice(), &after);
-            }
         }
     }
 

@@ -112,7 +112,13 @@ impl HallGen {
                 return self.event(row);
             }
         } else if rng.once_in(24) {
-            self.burst = rng.below(if self.busy { 160 } else { 40 });
+            // At times K of a drive, which it gets there by.
+            let rate =
+                row.get(rng.below(row.len() as u32) as usize).map_or(1, |drive| drive.params[9].max(1));
+            self.burst = match rng.below(3) {
+                0 => u32::from(255u16.div_ceil(rate)) + rng.below(4),
+                _ => rng.below(if self.busy { 160 } else { 40 }),
+            };
         } else if rng.below(5) > 1 {
             return self.event(row);
         }

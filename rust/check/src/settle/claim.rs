@@ -1,48 +1,53 @@
-//! Document 02's W-207 of one stretch: "If one commander rules with one target for K ticks in a row, Rate
-//! unwritten, the drive stands at that target after the last of them and stays while that commander and
-//! target rule." What it asks of a record is read off document 01 here, apart from `model`. Other wordings
-//! are this text with a change, in `edits/settle.rs`.
+//! Document 02's W-207: "If one commander rules with one target for K ticks in a row, Rate unwritten, the drive
+//! stands at that target after the last of them and stays while that commander and target rule." What it asks of a
+//! record is read off document 01 here, apart from `model`. False wordings are this text with a change, in
+//! `edits/settle.rs`.
 
-use crate::settle::{Found, Met, Source, Turn, Verdict};
-use crate::table::{Param, TABLE};
+use crate::settle::{Found, Source, Turn};
+use crate::table::Param;
 use damper::Drive;
 
-/// The claim of a start, the records of l and those of l': whether its conditions are met, and if so, whether
-/// it holds.
-pub fn judge(start: &Drive, l: &[Turn], later: &[Turn]) -> Verdict {
-    let ticks = || l.iter().filter(|turn| turn.ticked());
-    // K is at least 1, so without a tick nothing is claimed.
-    let Some(first) = ticks().next() else { return Verdict::NotMet };
-    if !well_formed(start) {
-        return Verdict::NotMet;
-    }
-    let k = k(start);
-    let count = ticks().count();
-    let rate_written = l.iter().any(Turn::wrote_rate);
-    if count < k || rate_written {
-        return Verdict::NotMet;
-    }
-    let (source, goal) = found(&first.before);
-    if ticks().any(|tick| found(&tick.before) != (source, goal)) {
-        return Verdict::NotMet;
+/// The latest stretch of a list: ticks in a row that find one commander with one goal, Rate unwritten.
+#[derive(Clone, Copy, Default)]
+pub struct Claim {
+    found: Option<Found>,
+    /// By the Rate of its ticks.
+    k: usize,
+    /// Accepted ones.
+    ticks: usize,
+}
+
+impl Claim {
+    /// The next turn of a drive; whether it breaks the claim.
+    pub fn turn(&mut self, turn: &Turn) -> bool {
+        if turn.ticked() {
+            let found = found(turn.before);
+            if self.found != Some(found) {
+                *self = Claim { found: Some(found), k: k(turn.before), ticks: 0 };
+            }
+            self.ticks += 1;
+        }
+        let goal = self.reached();
+        if turn.wrote_rate() && goal.is_none() {
+            *self = Claim::default();
+        }
+        goal.is_some_and(|goal| turn.after.position != goal)
     }
 
-    // Arrives.
-    if l[l.len() - 1].after.position != goal {
-        return Verdict::NotThere { goal };
+    pub fn is_at_first_tick(&self) -> bool {
+        self.ticks == 1
     }
-    // Stays, after every record up to the first tick that finds another.
-    let mut stayed = 0;
-    for turn in later {
-        if turn.ticked() && found(&turn.before) != (source, goal) {
-            break;
-        }
-        if turn.after.position != goal {
-            return Verdict::Left { goal, at: stayed };
-        }
-        stayed += 1;
+
+    /// The goal at which the drive has to stand now, and after every turn up to a tick that finds another.
+    pub fn reached(&self) -> Option<u8> {
+        self.found.map(|(_, goal)| goal).filter(|_| self.ticks >= self.k)
     }
-    Verdict::Kept(Met { source, goal, k, count, stayed })
+}
+
+/// Whether a list breaks the claim.
+pub fn broken(turns: &[Turn]) -> bool {
+    let mut claim = Claim::default();
+    turns.iter().any(|turn| claim.turn(turn))
 }
 
 /// "K = 255 divided by Rate, rounded up."
@@ -141,27 +146,3 @@ pub const POSITIONS: [u8; 101] = {
     }
     positions
 };
-
-/// "A record is well formed when [..]"
-pub fn well_formed(record: &Drive) -> bool {
-    let Drive { commands, run, last, .. } = record;
-    let in_range =
-        TABLE.iter().zip(record.params).all(|(row, value)| row.least <= value && value <= row.most);
-    let flags = [commands.fault, commands.hand, commands.tool, commands.stored, last.reported];
-    in_range
-        && value(record, Param::Low) <= value(record, Param::High)
-        && commands.forcing <= 3
-        && flags.iter().all(|flag| *flag <= 1)
-        && match run.kind {
-            0 => run.left == 0,
-            1..=3 => {
-                let stopped = active(Source::Fault, record) || active(Source::Forcing, record);
-                run.left >= 1 && usize::from(run.left) <= k(record) && !stopped
-            }
-            _ => false,
-        }
-        && (commands.hand == 1 || commands.handpos == 0)
-        && (commands.tool == 1 || commands.toolpos == 0)
-        && (commands.stored == 1 || (commands.setpoint, record.age) == (0, 0))
-        && (last.reported == 1 || (last.position, last.status) == (0, 0))
-}

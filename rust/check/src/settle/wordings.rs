@@ -1,14 +1,12 @@
-//! Wordings of W-207 that look right. Each is `claim` with a change, in `edits/settle.rs`.
+//! Wordings of W-207 that look right and are false. Each is `claim` with a change, in `edits/settle.rs`.
 
-use super::Judge;
+use super::Turn;
 
 pub struct Wording {
     pub name: &'static str,
-    pub judge: Judge,
+    /// Whether a list breaks the claim, put this way.
+    pub broken: fn(&[Turn]) -> bool,
 }
-
-/// Those of them that are true.
-pub const TRUE: &[&str] = &["GoalAlone"];
 
 /// All of them.
 pub const ALL: &[Wording] = edited::EDITED;
@@ -17,10 +15,4 @@ mod edited {
     use super::Wording;
 
     include!(concat!(env!("OUT_DIR"), "/settle.rs"));
-}
-
-impl Wording {
-    pub fn is_true(&self) -> bool {
-        TRUE.contains(&self.name)
-    }
 }

@@ -1,0 +1,11 @@
+//! One program for all tests, so that what they share is compiled and linked once.
+
+mod demand_3;
+mod hall;
+mod host;
+mod percent;
+mod plain;
+mod program;
+mod records;
+mod settle;
+mod wrong;

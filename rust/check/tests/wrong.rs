@@ -1,0 +1,84 @@
+//! What the comparison and demand 3 have to find in wrong drives and wrong halls, and what is printed of it.
+
+use damper_check::check::Clause;
+use damper_check::compare::lists;
+use damper_check::cover::Cover;
+use damper_check::halls::cover::HallCover;
+use damper_check::halls::halls;
+use damper_check::halls::wrong::{self as wrong_halls, Wrong};
+use damper_check::wrong;
+
+#[test]
+fn wrong_drives_are_caught() {
+    for wrong in wrong::ALL {
+        assert!(wrong.is_caught(1), "{} by {:?}", wrong.name, wrong.by);
+    }
+}
+
+#[test]
+fn wrong_halls_are_caught() {
+    for wrong in wrong_halls::ALL {
+        assert!(wrong.caught(1, 60_000).is_some(), "{}", wrong.name);
+    }
+}
+
+/// The clause named finds each of these by itself, in one hall or another.
+#[test]
+fn shares_break_demand_3() {
+    for (name, clause) in [
+        ("PlaceForNumber", Clause::Move),
+        ("LastDriveSkipped", Clause::Move),
+        ("RefusedEventGiven", Clause::Move),
+        ("TwiceAfterGiving", Clause::Move),
+        ("PositionAndStatusExchanged", Clause::Content),
+        ("LowestGoes", Clause::Turn),
+        ("NothingSent", Clause::Turn),
+        ("HeldNotCounted", Clause::Turn),
+        ("SentKeepsWait", Clause::Turn),
+        ("NotDueSent", Clause::OnlyDue),
+        ("HeldResetsSince", Clause::Waiting),
+        ("SentKeepsSince", Clause::Spacing),
+    ] {
+        let found = |seed| Wrong::named(name).broken(seed, 60_000);
+        assert!((1..30).filter_map(found).any(|breach| breach.has(clause)), "{name}");
+    }
+}
+
+/// What is printed for a wrong drive is short enough to read.
+#[test]
+fn lists_are_short() {
+    for name in ["TimeoutLess", "RunRoundedDown", "ReadAsReport"] {
+        let finding = lists(wrong::named(name), 1, 100_000, &mut Cover::default());
+        let finding = finding.expect_err("a finding");
+        let events = finding.text.lines().next().expect("a list").split(' ').count();
+        assert!(events < 20, "{finding}");
+    }
+}
+
+/// So is what is printed for a wrong hall.
+#[test]
+fn calls_are_few() {
+    for name in ["LastDriveSkipped", "NumberCutToByte", "BrokenTicked"] {
+        let finding = halls(Wrong::named(name), 1, 60_000, &mut HallCover::default());
+        let finding = finding.expect_err("a finding");
+        let calls: usize = finding.text.split(' ').next().and_then(|n| n.parse().ok()).expect("a count");
+        assert!(calls < 10, "{finding}");
+    }
+}
+
+/// For a wrong page it is the call, the two lines that differ, and the drive.
+#[test]
+fn lines_are_shown() {
+    let wrong = Wrong::named("CarriageReturn");
+    let finding = halls(wrong, 1, 60_000, &mut HallCover::default()).expect_err("a finding");
+    let lines: Vec<_> = finding.text.lines().collect();
+    let [calls, call, numbers, model, subject, drive] = lines[..] else { panic!("{finding}") };
+    assert!(calls.starts_with("1 calls on a hall of "), "{finding}");
+    assert!(call.starts_with("  page of "), "{finding}");
+    assert_eq!(numbers, "  model 0, subject 0");
+    let shown = model.strip_prefix("  line 0: model   ").and_then(|shown| shown.strip_suffix(r#"\n""#));
+    let shown = shown.unwrap_or_else(|| panic!("{finding}"));
+    assert!(shown.starts_with("\" 0 ") && shown.len() == 29, "{finding}");
+    assert_eq!(subject, format!(r#"  line 0: subject {shown}\r""#));
+    assert!(drive.starts_with("  drive 0: Drive { "), "{finding}");
+}
