@@ -3,16 +3,16 @@ use mathlib.Core.Path.{_≡_, refl}
 use mathlib.Core.List.{List, [], _∷_, _++_, reverse}
 use Prim.Native.Nat.{ℕ, _-_, _*_, _/_}
 use Prim.Native.String.{String}
+use lib.Dec.{eqb}
 use lib.ListN.{length, take, drop, replicate}
 use Rattle.numbers.specs.Numbers.{pick}
 use Rattle.numbers.specs.Laws.{cases}
 use Rattle.numbers.specs.Every.{Every}
 use Rattle.motion.specs.Motion.{toPercent}
-use Rattle.rules.specs.Rank.{Source, forcing}
 use Rattle.damper.specs.declared.Drive.{Drive}
 use Rattle.damper.specs.Record.{freshDrive, run, withCounts, withPosition, withRun, withSetpoint, withInterlocks}
 use Rattle.damper.specs.WellFormed.{wellFormed}
-use Rattle.damper.specs.Tick.{aged, rulingSource, statusOf}
+use Rattle.damper.specs.Tick.{aged, ruling, rulingSource, statusOf}
 use Rattle.line.specs.Text.{text}
 use Rattle.line.specs.Line.{decimal, spaced}
 use Rattle.shift.specs.Shift.{blanks, right, left, binary, nameOf, shown, hidden, lineWith, driveLine, linesFrom, pageAfter}
@@ -60,12 +60,9 @@ percentDown = lineBy positionColumn (λ d. right 3 (decimal (100 * d .position /
 abbrev nameToTheRight : Line
 nameToTheRight = lineBy positionColumn percentColumn (λ d. right 8 (nameOf (rulingSource d))) statusColumn
 
-abbrev rankName : Source → List ℕ
-rankName forcing = text "forcing"
-rankName c = nameOf c
-
 abbrev forcingForForced : Line
-forcingForForced = lineBy positionColumn percentColumn (λ d. left 8 (rankName (rulingSource d))) statusColumn
+forcingForForced =
+    lineBy positionColumn percentColumn (λ d. left 8 (pick (eqb (ruling d) 5) (text "forcing") (nameOf (rulingSource d)))) statusColumn
 
 abbrev rulingNext : Line
 rulingNext = lineBy positionColumn percentColumn (λ d. left 8 (nameOf (rulingSource (aged d)))) statusColumn

@@ -1,7 +1,7 @@
 -- Wrong turns of a hall call, wrong answer rows and wrong shares, each with calls of which document 02 says otherwise. The hall has three
 -- drives, of which the second is not well formed.
 use mathlib.Core.Path.{_≡_, refl}
-use mathlib.Core.Bool.{Bool, true, _||_}
+use mathlib.Core.Bool.{Bool, true, false, _||_}
 use mathlib.Core.List.{List, [], _∷_, _++_, map, reverse}
 use Prim.Native.Nat.{ℕ, _-_}
 use lib.Dec.{ltb, eqb}
