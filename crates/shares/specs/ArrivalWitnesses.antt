@@ -96,7 +96,7 @@ pub held-uncounted-refuted : Settles hallStep sentOnly rateGiven alwaysDue → �
 unfolding computation
 held-uncounted-refuted s =
     let gs = forcedThen 3 true ++ (forcedThen 2 false ++ (forcedThen 3 true ++ (forcedThen 2 false ++ forcedThen 3 true))) in
-    let p : 100 ≡ 255 = s forcing 255 gs record { ruled = each-ruled forcing 255 _ refl refl; unwritten = refl; enough = omega arith } .0 in
+    let p : _≡_ {A = ℕ} 100 255 = s forcing 255 gs record { ruled = each-ruled forcing 255 _ refl refl; unwritten = refl; enough = omega arith } .0 in
     omega arith
 
 -- forced open for three hall ticks after Rate was written to 1, it stands at 3
@@ -104,5 +104,5 @@ pub rate-overlooked-refuted : Settles hallStep tickGiven never alwaysDue → ⊥
 unfolding computation
 rate-overlooked-refuted s =
     let gs = bytes (bytesOf (event Kind.write 203 0 1)) ∷ (forcedThen 3 false ++ (hallTick false ∷ hallTick false ∷ [])) in
-    let p : 3 ≡ 255 = s forcing 255 gs record { ruled = each-ruled forcing 255 _ refl refl; unwritten = refl; enough = omega arith } .0 in
+    let p : _≡_ {A = ℕ} 3 255 = s forcing 255 gs record { ruled = each-ruled forcing 255 _ refl refl; unwritten = refl; enough = omega arith } .0 in
     omega arith

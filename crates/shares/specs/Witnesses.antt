@@ -198,7 +198,7 @@ numbered-by-the-hall = refl
 abbrev everyTickNoted : ℕ → List Event → List Given → List Entry
 everyTickNoted n h [] = []
 everyTickNoted n h (bytes s ∷ gs) = everyTickNoted (n + 1) (pick (eqb (judgement h s) 0) (eventIn s ∷ h) h) gs
-everyTickNoted n h (hallTick sent ∷ gs) = let h′ = eventIn tick ∷ h in entry (n + 1) (positionIn h′) (statusIn h′) ∷ everyTickNoted (n + 1) h′ gs
+everyTickNoted n h (hallTick sending ∷ gs) = let h′ = eventIn tick ∷ h in entry (n + 1) (positionIn h′) (statusIn h′) ∷ everyTickNoted (n + 1) h′ gs
 
 pub held-noted : everyTickNoted 0 [] (share 3 0 calls) ≡ entry 3 5 0 ∷ entry 4 10 0 ∷ entry 5 15 0 ∷ []
 unfolding computation readings
