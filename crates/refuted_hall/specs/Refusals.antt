@@ -210,7 +210,10 @@ table =
     ∷ eventBy (row14 ∷ number15 ∷ entries64 ∷ twice19 ∷ []) 64 (placesFrom 0 64) setpoint 64 0
     ∷ eventBy (row14 ∷ number15 ∷ roomToSpare ∷ twice19 ∷ []) 2 (1 ∷ 0 ∷ []) setpoint 2 0
     ∷ tickBy (tickRow14 ∷ tickRoomToSpare ∷ quota18 ∷ []) 2 8 2 0
+    -- and a row of numbers that is a place short, not asked for
+    ∷ tickBy (tickRow14 ∷ quota18 ∷ []) 2 8 1 16
     -- "19 when a list names a drive twice": by the first and the last entry, behind the first one, not at all
+    ∷ eventBy (row14 ∷ number15 ∷ given16 ∷ []) 8 (7 ∷ 3 ∷ 5 ∷ 7 ∷ []) setpoint 4 19
     ∷ eventBy (row14 ∷ number15 ∷ given16 ∷ twice16 ∷ []) 8 (7 ∷ 3 ∷ 5 ∷ 7 ∷ []) setpoint 4 19
     ∷ eventBy (row14 ∷ number15 ∷ given16 ∷ twiceBy neighbours ∷ []) 8 (7 ∷ 3 ∷ 5 ∷ 7 ∷ []) setpoint 4 19
     ∷ eventBy (row14 ∷ number15 ∷ given16 ∷ twiceBy beforeTheLast ∷ []) 8 (7 ∷ 3 ∷ 5 ∷ 7 ∷ []) setpoint 4 19
