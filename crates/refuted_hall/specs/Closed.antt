@@ -50,7 +50,7 @@ differ xs ys q e = let s : same xs ys ≡ true = rw e (same-self ys) in false≢
 abbrev refutes : Case → Bool
 refutes c = same (c .given) (c .paper) && not (same (c .wrong) (c .paper))
 
-abbrev pub refutesAll : List Case → Bool
+abbrev refutesAll : List Case → Bool
 refutesAll [] = true
 refutesAll (c ∷ cs) = refutes c && refutesAll cs
 

@@ -14,9 +14,9 @@ use Rattle.damper.specs.Record.{freshDrive, run, withCounts, withPosition, with
 use Rattle.damper.specs.WellFormed.{wellFormed}
 use Rattle.damper.specs.Tick.{aged, ruling, rulingSource, statusOf}
 use Rattle.line.specs.Text.{text}
-use Rattle.line.specs.Line.{decimal, spaced}
+use Rattle.line.specs.Line.{decimal}
 use Rattle.shift.specs.Shift.{blanks, right, left, binary, nameOf, shown, hidden, lineWith, driveLine, linesFrom, pageAfter}
-use Rattle.refuted_hall.specs.Closed.{computation, Case, Refuted, refutesAll, all-refuted}
+use Rattle.refuted_hall.specs.Closed.{computation, Case, Refuted, all-refuted}
 
 abbrev Line : Type 0
 Line = ℕ → Drive → List ℕ

@@ -12,7 +12,7 @@ use Rattle.event.specs.Event.{event, bytesOf}
 use Rattle.event.specs.Kinds as Kind
 use Rattle.hall.specs.Hall.{give, tick, badRow, badNumber, isTick, badEvent, namedIn, namesTwice, badQuota, tickBytes, callRefusal}
 use Rattle.shift.specs.Shift.{pageRefusal}
-use Rattle.refuted_hall.specs.Closed.{computation, Case, Refuted, refutesAll, all-refuted}
+use Rattle.refuted_hall.specs.Closed.{computation, Case, Refuted, all-refuted}
 
 -- What the event call, the hall tick and the page call are asked: `room` is the length of the row lent for the answers.
 pub record EventCall : Type 0 where

@@ -21,7 +21,7 @@ use Rattle.damper.specs.Tick.{advance, due, reported}
 use Rattle.damper.specs.Step.{outcome, tickWith}
 use Rattle.hall.specs.Hall.{at, tickNumber}
 use Rattle.hall.specs.Quota.{dueNow, waitAfter, hallTicked, longest, allowed}
-use Rattle.refuted_hall.specs.Closed.{computation, Case, Refuted, refutesAll, all-refuted}
+use Rattle.refuted_hall.specs.Closed.{computation, Case, Refuted, all-refuted}
 
 -- a drive with MinRepTime 1, due at the next tick for want of a report, that waited `w` hall ticks; one that is not due; one that is not
 -- well formed

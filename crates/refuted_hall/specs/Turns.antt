@@ -1,7 +1,7 @@
 -- Wrong turns of a hall call, wrong answer rows and wrong shares, each with calls of which document 02 says otherwise. The hall has three
 -- drives, of which the second is not well formed.
-use mathlib.Core.Path.{_≡_, refl}
-use mathlib.Core.Bool.{Bool, true, false, _||_}
+use mathlib.Core.Path.{refl}
+use mathlib.Core.Bool.{true, false, _||_}
 use mathlib.Core.List.{List, [], _∷_, _++_, map, reverse}
 use Prim.Native.Nat.{ℕ, _-_}
 use lib.Dec.{ltb, eqb}
@@ -20,7 +20,7 @@ use Rattle.damper.specs.Record.{freshDrive, withCommands, noRun}
 use Rattle.damper.specs.Carry.{answersIn}
 use Rattle.hall.specs.Hall.{Call, give, tick, Given, bytes, Turn, turn, bytesIn, callRefusal, turnsAsked, carriedOut, turnsOf, at, turned, answersAfter, sharedOut, share, own}
 use Rattle.hall.specs.Quota.{hallStep}
-use Rattle.refuted_hall.specs.Closed.{computation, Case, Refuted, refutesAll, all-refuted}
+use Rattle.refuted_hall.specs.Closed.{computation, Case, Refuted, all-refuted}
 
 -- Wrong turns.
 

@@ -1,6 +1,5 @@
 use borrow.Author.Needs.{needs}
 use mathlib.Core.Path.{_≡_}
-use Prim.Native.Nat.{ℕ}
 use Rattle.numbers.specs.Numbers.{pick}
 use Rattle.hall.specs.Hall.{badNumber, badEvent}
 use Rattle.hall.proofs.first_refusal.Statement.{statement}
