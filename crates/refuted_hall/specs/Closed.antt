@@ -58,6 +58,7 @@ pub all-refuted : (cs : List Case) → refutesAll cs ≡ true → Every Refuted 
 all-refuted [] q = none
 all-refuted (c ∷ cs) q =
     let here = and-left (refutes c) _ q in
+    let right = same (c .given) (c .paper) in
     more
-    (same-rows (c .given) (c .paper) (and-left (same (c .given) (c .paper)) _ here), differ (c .wrong) (c .paper) (and-right (same (c .given) (c .paper)) _ here))
+    (same-rows (c .given) (c .paper) (and-left right _ here), differ (c .wrong) (c .paper) (and-right right _ here))
     (all-refuted cs (and-right (refutes c) _ q))

@@ -50,7 +50,8 @@ own number d = cases (wellFormed d) (λ w. rw w) (λ w. rw w)
 
 -- zeros before the position
 abbrev zerosBefore : Line
-zerosBefore = lineBy (λ d. let t = decimal (d .position) in drop (length t) (replicate 3 48 ++ t)) percentColumn commanderColumn statusColumn
+zerosBefore =
+    lineBy (λ d. let t = decimal (d .position) in drop (length t) (replicate 3 48 ++ t)) percentColumn commanderColumn statusColumn
 
 -- the percent by document 01's formula, which W-202 replaced
 abbrev percentDown : Line

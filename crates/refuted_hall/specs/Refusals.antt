@@ -73,8 +73,10 @@ abbrev page17 : Reason PageCall
 page17 = reason 17 (λ c. ltb (c .bytes) (29 * c .drives))
 
 -- In their order they are the product's refusals, of every call.
-pub own : ((c : EventCall) → callRefusal (c .drives) (give (c .list) (c .bytes) (c .room)) ≡ firstOf (row14 ∷ number15 ∷ given16 ∷ twice19 ∷ []) c)
-    × ((c : TickCall) (sends : ℕ → Bool) → callRefusal (c .drives) (tick (c .quota) sends (c .room)) ≡ firstOf (tickRow14 ∷ room16 ∷ quota18 ∷ []) c)
+pub own : ((c : EventCall)
+    → callRefusal (c .drives) (give (c .list) (c .bytes) (c .room)) ≡ firstOf (row14 ∷ number15 ∷ given16 ∷ twice19 ∷ []) c)
+    × ((c : TickCall) (sends : ℕ → Bool)
+    → callRefusal (c .drives) (tick (c .quota) sends (c .room)) ≡ firstOf (tickRow14 ∷ room16 ∷ quota18 ∷ []) c)
     × ((c : PageCall) → pageRefusal (c .drives) (c .bytes) ≡ firstOf (pageRow14 ∷ page17 ∷ []) c)
 unfolding callRefusal pageRefusal
 own = (λ c. refl, λ c sends. refl, λ c. refl)

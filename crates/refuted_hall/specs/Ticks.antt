@@ -98,8 +98,8 @@ numberBy wrong d after = record { given = shown tickNumber (hallTicked true d); 
 
 abbrev pub tickTable : List Case
 tickTable =
-    -- "Each drive keeps how many hall ticks in a row it was due and not sent, stopping at 65,535; fresh, sent or not due it is 0, but a drive
-    -- not well formed keeps it."
+    -- "Each drive keeps how many hall ticks in a row it was due and not sent, stopping at 65,535; fresh, sent or not due it is 0, but a
+    -- drive not well formed keeps it."
     tickedBy undueKeepsItsWait (undue 7) false (1 ∷ 0 ∷ 0 ∷ 0 ∷ [])
     ∷ tickedBy sentKeepsItsWait (quick 7) true (0 ∷ 1 ∷ 0 ∷ 65568 ∷ [])
     ∷ tickedBy waitBeyondTheLast (quick 65535) false (1 ∷ 0 ∷ 65535 ∷ 0 ∷ [])

@@ -96,7 +96,9 @@ pub held-uncounted-refuted : Settles hallStep sentOnly rateGiven alwaysDue → �
 unfolding computation
 held-uncounted-refuted s =
     let gs = forcedThen 3 true ++ (forcedThen 2 false ++ (forcedThen 3 true ++ (forcedThen 2 false ++ forcedThen 3 true))) in
-    let p : _≡_ {A = ℕ} 100 255 = s forcing 255 gs record { ruled = each-ruled forcing 255 _ refl refl; unwritten = refl; enough = omega arith } .0 in
+    let r : RuledForK hallStep sentOnly rateGiven alwaysDue forcing 255 gs =
+    record { ruled = each-ruled forcing 255 _ refl refl; unwritten = refl; enough = omega arith } in
+    let p : _≡_ {A = ℕ} 100 255 = s forcing 255 gs r .0 in
     omega arith
 
 -- forced open for three hall ticks after Rate was written to 1, it stands at 3
@@ -104,5 +106,7 @@ pub rate-overlooked-refuted : Settles hallStep tickGiven never alwaysDue → ⊥
 unfolding computation
 rate-overlooked-refuted s =
     let gs = bytes (bytesOf (event Kind.write 203 0 1)) ∷ (forcedThen 3 false ++ (hallTick false ∷ hallTick false ∷ [])) in
-    let p : _≡_ {A = ℕ} 3 255 = s forcing 255 gs record { ruled = each-ruled forcing 255 _ refl refl; unwritten = refl; enough = omega arith } .0 in
+    let r : RuledForK hallStep tickGiven never alwaysDue forcing 255 gs =
+    record { ruled = each-ruled forcing 255 _ refl refl; unwritten = refl; enough = omega arith } in
+    let p : _≡_ {A = ℕ} 3 255 = s forcing 255 gs r .0 in
     omega arith

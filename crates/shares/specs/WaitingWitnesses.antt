@@ -131,8 +131,8 @@ pub held-anew : (allowedCalls three anew ≡ true)
 unfolding computation
 held-anew = (refl, refl)
 
--- Over all hall ticks at which it was due and not sent, and not those in a row, the wait of place 2 would be 2 after it is sent, and 1 after
--- it is not due.
+-- Over all hall ticks at which it was due and not sent, and not those in a row, the wait of place 2 would be 2 after it is sent, and 1
+-- after it is not due.
 abbrev waitOverAll : Trace → ℕ
 waitOverAll [] = 0
 waitOverAll (m ∷ t) =

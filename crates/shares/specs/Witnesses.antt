@@ -190,7 +190,8 @@ unfolding computation readings sharedLogFrom
 log = (refl, refl)
 
 -- Numbered among all turns of the hall its reports would be the seventh and the thirteenth, beside those of drive 2.
-pub numbered-by-the-hall : reportsFrom 0 (H.hallTurned hallStep hall calls) ≡ entry 7 5 0 ∷ entry 12 0 0 ∷ entry 13 15 0 ∷ entry 15 128 0 ∷ []
+pub numbered-by-the-hall : reportsFrom 0 (H.hallTurned hallStep hall calls)
+    ≡ entry 7 5 0 ∷ entry 12 0 0 ∷ entry 13 15 0 ∷ entry 15 128 0 ∷ []
 unfolding computation
 numbered-by-the-hall = refl
 
@@ -198,7 +199,9 @@ numbered-by-the-hall = refl
 abbrev everyTickNoted : ℕ → List Event → List Given → List Entry
 everyTickNoted n h [] = []
 everyTickNoted n h (bytes s ∷ gs) = everyTickNoted (n + 1) (pick (eqb (judgement h s) 0) (eventIn s ∷ h) h) gs
-everyTickNoted n h (hallTick sending ∷ gs) = let h′ = eventIn tick ∷ h in entry (n + 1) (positionIn h′) (statusIn h′) ∷ everyTickNoted (n + 1) h′ gs
+everyTickNoted n h (hallTick sending ∷ gs) =
+    let h′ = eventIn tick ∷ h in
+    entry (n + 1) (positionIn h′) (statusIn h′) ∷ everyTickNoted (n + 1) h′ gs
 
 pub held-noted : everyTickNoted 0 [] (share 3 0 calls) ≡ entry 3 5 0 ∷ entry 4 10 0 ∷ entry 5 15 0 ∷ []
 unfolding computation readings
@@ -263,6 +266,7 @@ unfolding computation readings decimal digitsWithin right left binary
 line = refl
 
 -- Decided by all turns of the hall it would show the calibration of drive 2.
-pub line-of-the-hall : lineIn 0 (historyOf (map (λ (t : Turn). bytesIn (t .given)) (turnsIn 3 calls))) ≡ text " 0   0   0 run      00000100\n"
+pub line-of-the-hall : lineIn 0 (historyOf (map (λ (t : Turn). bytesIn (t .given)) (turnsIn 3 calls)))
+    ≡ text " 0   0   0 run      00000100\n"
 unfolding computation readings decimal digitsWithin right left binary
 line-of-the-hall = refl
