@@ -12,7 +12,8 @@ returns c =
     let number = badNumber (a .drives) (a .list .now) in
     let given = badEvent (a .list .now) (a .s .now) (a .places) in
     let first : c .before .pick82 .result ≡ pick number 15 (pick given 16 0) =
-    simp (c .before .before .pick8 .ensures, judged .is-tick .ensures, judged .before .bad-number .ensures) at (c .before .pick82 .ensures) in
+    simp (c .before .before .pick8 .ensures, judged .is-tick .ensures, judged .before .bad-number .ensures)
+    at (c .before .pick82 .ensures) in
     simp (first, judged .before .before .bad-row .ensures) at (c .pick83 .ensures)
 
 pub first-refusal-spec : {M : Type 1} → statement M
