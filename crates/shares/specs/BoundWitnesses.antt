@@ -1,11 +1,12 @@
 -- The bound of document 02, W-204, by computation on halls of three: it is reached, one tick fewer is too few, also where the waits stop at
 -- 65,535, and neither "not restarted" nor "due at each" can be left out.
 use mathlib.Core.Path.{_≡_, refl}
-use mathlib.Core.Bool.{Bool, true, false}
+use mathlib.Core.Bool.{Bool, true, false, false≢true}
 use mathlib.Core.List.{List, [], _∷_, _++_}
-use Prim.Native.Nat.{ℕ}
+use Prim.Native.Nat.{ℕ, _+_, _<_, _≤_}
+use native.Mathlib.Omega.{arith}
 use lib.Dec.{eqb}
-use lib.ListN.{set}
+use lib.ListN.{length, set}
 use Rattle.table.specs.Table.{freshValues}
 use Rattle.event.specs.Event.{event, bytesOf}
 use Rattle.event.specs.Kinds as Kind
@@ -16,7 +17,7 @@ use Rattle.damper.specs.WellFormed.{wellFormed}
 use Rattle.hall.specs.Closed as Closed
 use Rattle.hall.specs.Hall.{Call, give, tick, Given, bytes, hallTick, at, hallAfter, share}
 use Rattle.hall.specs.Quota.{dueNow, hallStep, allowedCalls}
-use Rattle.shares.specs.Bound.{ticksGiven, dueAtEach, sentAtOne, restarted}
+use Rattle.shares.specs.Bound.{ticksGiven, dueAtEach, sentAtOne, restarted, sent-in-time}
 
 -- `unfolding computation` opens drive and hall, and what the bound speaks of
 unfoldable pub computation : Unit {0}
@@ -112,3 +113,27 @@ pub every-second : (allowedCalls often six ≡ true)
     × (sentAt (share 3 2 six) ≡ false ∷ false ∷ false ∷ false ∷ false ∷ false ∷ [])
 unfolding computation
 every-second = (refl, refl, refl, refl)
+
+-- The bound with its operands left open: how many hall ticks are enough, by the number of drives, and what is supposed of a restart.
+abbrev pub Bounded : (ℕ → ℕ → Type 0) → (Bool → Type 0) → Type 0
+Bounded enough restarts =
+    (row : List Drive) (cs : List Call) (i : ℕ)
+    → i < length row
+    → wellFormed (at row i) ≡ true
+    → allowedCalls row cs ≡ true
+    → enough (length row) (ticksGiven (share (length row) i cs))
+    → dueAtEach (at row i) (share (length row) i cs) ≡ true
+    → restarts (restarted (at row i) (share (length row) i cs))
+    → sentAtOne (share (length row) i cs) ≡ true
+
+-- The paper's own is proved; with one hall tick fewer, and of a drive that is restarted meanwhile, it is false.
+pub bounded : Bounded (λ n k. n ≤ k) (λ r. r ≡ false)
+bounded = sent-in-time
+
+pub one-fewer-refuted : Bounded (λ n k. n ≤ k + 1) (λ r. r ≡ false) → ⊥
+unfolding computation
+one-fewer-refuted b = false≢true (b (eager 0) two 2 (omega arith) refl refl (omega arith) refl refl)
+
+pub past-restart-refuted : Bounded (λ n k. n ≤ k) (λ r. Unit {0}) → ⊥
+unfolding computation
+past-restart-refuted b = false≢true (b (eager 0) between 2 (omega arith) refl refl (omega arith) refl tt)

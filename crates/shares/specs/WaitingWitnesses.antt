@@ -1,10 +1,12 @@
 -- Waiting in a hall by computation, on three fresh drives: place 2 breaks the old sentence about waiting at two hall ticks in a row, so that
 -- fewer than three is all there is to say, and at three with a restart between them; and its wait, read off its trace, after each call.
 use mathlib.Core.Path.{_≡_, refl, ap}
-use mathlib.Core.Bool.{Bool, true, false, false≢true}
+use mathlib.Core.Bool.{Bool, true, false, not, _&&_, false≢true}
 use mathlib.Core.List.{List, [], _∷_, _++_, map}
-use Prim.Native.Nat.{ℕ}
-use lib.ListN.{take}
+use Prim.Native.Nat.{ℕ, _+_, _<_}
+use native.Mathlib.Omega.{arith}
+use lib.ListN.{length, take}
+use Rattle.numbers.specs.Numbers.{pick}
 use Rattle.numbers.specs.Counts as Counts
 use Rattle.event.specs.Event.{event, bytesOf}
 use Rattle.event.specs.Kinds as Kind
@@ -12,11 +14,11 @@ use Rattle.rules.specs.Report.{Sent, silent, sent, reportDue}
 use Rattle.answer.specs.declared.Answer.the-variants.{Done, Tick}
 use Rattle.damper.specs.declared.Drive.{Drive}
 use Rattle.damper.specs.Record.{freshDrive}
-use Rattle.hall.specs.Hall.{Call, give, tickBytes}
+use Rattle.hall.specs.Hall.{Call, give, tickBytes, at}
 use Rattle.hall.specs.Quota.{allowedCalls}
-use Rattle.history.specs.Readings.{isRestart}
+use Rattle.history.specs.Readings.{isTick, isRestart}
 use Rattle.history.specs.Closed.{readings}
-use Rattle.history.specs.Claim.{Moment, Trace, accepted, acceptedAs, lastReport, ticksIn, Waiting, traceOn}
+use Rattle.history.specs.Claim.{Moment, Trace, accepted, acceptedAs, reports, dueIn, lastReport, ticksIn, Waiting, traceOn}
 use Rattle.shares.specs.BoundWitnesses as Bound
 use Rattle.shares.specs.BoundWitnesses.{sending, giving}
 use Rattle.shares.specs.Theorem.{shareTrace}
@@ -69,6 +71,18 @@ breaks-twice = (
   refl,
 )
 
+-- That the old sentence is not broken at one hall tick fewer than the row has drives is false.
+pub one-fewer-refuted : ((row : List Drive) (before after : List Call) (i : ℕ) → i < length row → at row i ≡ freshDrive
+    → allowedCalls row (before ++ after) ≡ true
+    → (new : Trace) → shareTrace row i (before ++ after) ≡ new ++ shareTrace row i before → Broken (shareTrace row i before) new
+    → ticksIn new (shareTrace row i before) + 1 < length row)
+    → ⊥
+unfolding computation
+one-fewer-refuted b =
+    let w = breaks-twice in
+    let l = b three before after 2 (omega arith) refl (w .0) (held ∷ held ∷ []) (w .1) (w .2) in
+    omega (arith, l, w .3)
+
 -- then a restart of place 2, hand on at place 0, which changes its status, and a third hall tick, which sends place 0 again: both have a
 -- wait of 0 by then, and the lower number goes first
 abbrev past : List Call
@@ -116,3 +130,16 @@ pub held-anew : (allowedCalls three anew ≡ true)
     × (map (λ k. waitOf (shareTrace three 2 (take k anew))) (1 ∷ 2 ∷ 3 ∷ 4 ∷ 5 ∷ 6 ∷ []) ≡ 0 ∷ 1 ∷ 0 ∷ 1 ∷ 1 ∷ 0 ∷ [])
 unfolding computation
 held-anew = (refl, refl)
+
+-- Over all hall ticks at which it was due and not sent, and not those in a row, the wait of place 2 would be 2 after it is sent, and 1
+-- after it is not due.
+abbrev waitOverAll : Trace → ℕ
+waitOverAll [] = 0
+waitOverAll (m ∷ t) =
+    let n = waitOverAll t in
+    pick (acceptedAs isRestart m t) 0 (pick (acceptedAs isTick m t && (dueIn m t && not (reports m))) (n + 1) n)
+
+pub over-all-refuted : (map waitOf (shareTrace three 2 calls ∷ shareTrace three 2 anew ∷ []) ≡ 0 ∷ 0 ∷ [])
+    × (map waitOverAll (shareTrace three 2 calls ∷ shareTrace three 2 anew ∷ []) ≡ 2 ∷ 1 ∷ [])
+unfolding computation
+over-all-refuted = (refl, refl)

@@ -5,10 +5,13 @@ use mathlib.Core.Bool.{Bool, true, false, _||_}
 use mathlib.Core.List.{List, [], _∷_, _++_, map}
 use Prim.Native.Nat.{ℕ, _+_, _*_}
 use lib.Dec.{eqb}
-use lib.ListN.{length, replicate, set, take, drop}
+use lib.ListN.{length, getD, replicate, set, take, drop}
+use Rattle.numbers.specs.Numbers.{pick}
 use Rattle.table.specs.Table.{freshValues}
+use Rattle.event.specs.declared.Event.{Event}
+use Rattle.event.specs.Event.{eventIn}
 use Rattle.rules.specs.Commands.{noCommands, interlocked}
-use Rattle.rules.specs.Report.{sent}
+use Rattle.rules.specs.Report.{Sent, silent, sent}
 use Rattle.answer.specs.declared.Answer.{Answer}
 use Rattle.answer.specs.declared.Answer.the-variants.{Done, Tick, Report}
 use Rattle.damper.specs.declared.Drive.{Drive}
@@ -17,17 +20,17 @@ use Rattle.damper.specs.Record.{drive, last, noRun, freshDrive}
 use Rattle.hall.specs.Closed as Closed
 use Rattle.hall.specs.EventLaws.{turnsInTo16, allOnce}
 use Rattle.hall.specs.Hall as H
-use Rattle.hall.specs.Hall.{Call, give, callRefusal, bytes, hallTick, bytesIn, turnsOf, at, rowAfter, answersAfter, hallAfter, share, own}
+use Rattle.hall.specs.Hall.{Call, give, callRefusal, Given, bytes, hallTick, Turn, bytesIn, turnsOf, at, rowAfter, answersAfter, turnsIn, hallAfter, share, own}
 use Rattle.hall.specs.Quota.{hallStep, allowedCalls}
 use Rattle.line.specs.Text.{text}
 use Rattle.line.specs.Line.{decimal, digitsWithin}
 use Rattle.shift.specs.Shift.{right, left, binary, driveLine, linesFrom, pageRefusal, pageAfter}
-use Rattle.history.specs.Readings.{historyOf}
+use Rattle.history.specs.Readings.{positionIn, statusIn, judgement, historyOf}
 use Rattle.history.specs.Closed.{readings}
-use Rattle.history.specs.Log.{entry}
+use Rattle.history.specs.Log.{Entry, entry}
 use Rattle.history.specs.Claim.{reportsFrom}
 use Rattle.shares.specs.SharedLog.{sharedLogFrom, sharedLog}
-use Rattle.shares.specs.HostLog.{Lent, hostLog}
+use Rattle.shares.specs.HostLog.{readOff, Lent, hostLog}
 use Rattle.shares.specs.PageRead.{lineIn}
 
 -- `unfolding computation` opens drive and hall, and what is read off the calls
@@ -186,6 +189,24 @@ pub log : (reportsFrom 0 (own hallStep hall 0 calls) ≡ entry 3 5 0 ∷ entry 5
 unfolding computation readings sharedLogFrom
 log = (refl, refl)
 
+-- Numbered among all turns of the hall its reports would be the seventh and the thirteenth, beside those of drive 2.
+pub numbered-by-the-hall : reportsFrom 0 (H.hallTurned hallStep hall calls)
+    ≡ entry 7 5 0 ∷ entry 12 0 0 ∷ entry 13 15 0 ∷ entry 15 128 0 ∷ []
+unfolding computation
+numbered-by-the-hall = refl
+
+-- A log that notes the report of every hall tick would have the one that is held, at 10.
+abbrev everyTickNoted : ℕ → List Event → List Given → List Entry
+everyTickNoted n h [] = []
+everyTickNoted n h (bytes s ∷ gs) = everyTickNoted (n + 1) (pick (eqb (judgement h s) 0) (eventIn s ∷ h) h) gs
+everyTickNoted n h (hallTick sending ∷ gs) =
+    let h′ = eventIn tick ∷ h in
+    entry (n + 1) (positionIn h′) (statusIn h′) ∷ everyTickNoted (n + 1) h′ gs
+
+pub held-noted : everyTickNoted 0 [] (share 3 0 calls) ≡ entry 3 5 0 ∷ entry 4 10 0 ∷ entry 5 15 0 ∷ []
+unfolding computation readings
+held-noted = refl
+
 -- a drive that no call names has no share, and keeps its record
 abbrev elsewhere : List Call
 elsewhere = give (0 ∷ 1 ∷ []) (setpoint 7) 2 ∷ []
@@ -219,6 +240,21 @@ pub hostLogs : (hostLog hall 0 lent ≡ sent 5 0 ∷ sent 15 0 ∷ [])
 unfolding computation
 hostLogs = (refl, refl, refl)
 
+-- A host that reads its row also after a hall tick which is refused itself would note, twice, what stood in it before.
+abbrev heardAnyhow : ℕ → Call → List ℕ → Sent
+heardAnyhow i (give list s room) answers = silent
+heardAnyhow i (H.tick quota sends room) answers = readOff (getD answers i 0)
+
+abbrev notedAnyhow : List Drive → ℕ → List Lent → List Sent
+notedAnyhow row i [] = []
+notedAnyhow row i (l ∷ ls) =
+    heardAnyhow i (l .call) (answersAfter hallStep row (l .call) (l .row))
+    ∷ notedAnyhow (rowAfter hallStep row (turnsOf (length row) (l .call))) i ls
+
+pub refused-tick-read : drop 8 (notedAnyhow hall 0 lent) ≡ sent 5 0 ∷ sent 7 1 ∷ sent 7 1 ∷ silent ∷ sent 15 0 ∷ []
+unfolding computation
+refused-tick-read = refl
+
 -- The shift page afterwards, with a byte behind its lines; and the line of the fresh drive, read off its share.
 pub page : pageAfter (hallAfter hallStep hall calls) (replicate 88 9)
     ≡ text " 0  15   6 bus      00000000\n 1 --- --- -------- --------\n 2 128  50 bus      00000000\n" ++ (9 ∷ [])
@@ -228,3 +264,9 @@ page = refl
 pub line : lineIn 0 (historyOf (map bytesIn (share 3 0 calls))) ≡ text " 0  15   6 bus      00000000\n"
 unfolding computation readings decimal digitsWithin right left binary
 line = refl
+
+-- Decided by all turns of the hall it would show the calibration of drive 2.
+pub line-of-the-hall : lineIn 0 (historyOf (map (λ (t : Turn). bytesIn (t .given)) (turnsIn 3 calls)))
+    ≡ text " 0   0   0 run      00000100\n"
+unfolding computation readings decimal digitsWithin right left binary
+line-of-the-hall = refl

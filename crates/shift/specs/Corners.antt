@@ -41,7 +41,7 @@ pub record Shown : Type 0 where
 abbrev shows : (number : ℕ) (d : Drive) (line : String) → driveLine number d ≡ text line → Shown
 shows number d line e = record { number = number; drive = d; line = line; is = e }
 
--- each of the seven sources, and every bit of the status
+-- each of the seven sources
 pub shown : List Shown
 unfolding computation decimal digitsWithin right left binary driveLine
 shown =
@@ -52,18 +52,13 @@ shown =
     ∷ shows 4 (after (bytes 6 0 0 0 ∷ [])) " 4   0   0 run      00100100\n" refl
     ∷ shows 5 (after (bytes 4 3 0 0 ∷ [])) " 5   5   2 forced   00110000\n" refl
     ∷ shows 6 (after (bytes 7 1 0 0 ∷ [])) " 6   0   0 fault    00100001\n" refl
-    -- a synchronization at a restart
-    ∷ shows 7 (after (bytes 8 122 0 2 ∷ bytes 9 0 0 0 ∷ [])) " 7   5   2 run      00101000\n" refl
     -- the highest of several
     ∷ shows 8 (after (bytes 2 128 0 0 ∷ bytes 3 51 100 1 ∷ bytes 5 1 200 0 ∷ bytes 4 2 0 0 ∷ [])) " 8   0   0 forced   00010010\n" refl
-    -- numbers of one digit and of two, positions and percents of three
+    -- numbers of one digit and of two, positions of one and of three, percents of one and of three
     ∷ shows 9 (withPosition freshDrive 9) " 9   9   4 backup   00100000\n" refl
-    ∷ shows 10 (withPosition freshDrive 99) "10  99  39 backup   00100000\n" refl
-    ∷ shows 62 (withPosition freshDrive 254) "62 254 100 backup   00100000\n" refl
     ∷ shows 63 (withPosition freshDrive 255) "63 255 100 backup   00100000\n" refl
     -- not well formed
     ∷ shows 7 broken " 7 --- --- -------- --------\n" refl
-    ∷ shows 63 broken "63 --- --- -------- --------\n" refl
     -- the bus rules the record still, and no further tick
     ∷ shows 0 atTimeout " 0   5   2 bus      00000000\n" refl
     ∷ []
@@ -86,21 +81,14 @@ corner drives room number e = record { drives = drives; room = room; number = nu
 pub corners : List Corner
 unfolding pageRefusal
 corners =
-    -- rows of none and of 65, with room and without: 14 before 17
+    -- rows of none and of 65: 14 before 17
     corner 0 0 14 refl
-    ∷ corner 0 29 14 refl
-    ∷ corner 65 1885 14 refl
     ∷ corner 65 0 14 refl
-    -- one byte short, just enough, one to spare, of one drive and of 64
+    -- one byte short and just enough, of one drive and of 64
     ∷ corner 1 28 17 refl
     ∷ corner 1 29 0 refl
-    ∷ corner 1 30 0 refl
     ∷ corner 64 1855 17 refl
     ∷ corner 64 1856 0 refl
-    ∷ corner 64 1857 0 refl
-    -- 28 bytes for each, and none
-    ∷ corner 64 1792 17 refl
-    ∷ corner 1 0 17 refl
     ∷ []
 
 -- a page of two lines with three bytes behind them, and one that is a byte too short

@@ -16,7 +16,8 @@ returns c =
     let judged = c .before .before .before in
     let a = judged .before .before .before .args in
     let none = sym (judged .first-refusal .ensures) ∙ c .before .before .if1 .taken in
-    c .pick8 .ensures ∙ rw (c .before .names-twice .ensures, asked-after (a .drives) (a .list .now) (a .s .now) (a .places) _ none)
+    simp (c .before .names-twice .ensures) at (c .pick8 .ensures)
+    ∙ sym (asked-after (a .drives) (a .list .now) (a .s .now) (a .places) _ none)
 
 returns-2 : tie.Need-returns-2
 unfolding callRefusal

@@ -67,7 +67,8 @@ loop-again c =
       search needs,
       met-once (l .k) list less (l .inv .1) (rw number at new),
       λ i.
-          c .with-flag .ensures i
+          let kept : flagAt (c .with-flag .result) i ≡ eqb _ i || flagAt (l .met) i = c .with-flag .ensures i in
+          kept
           ∙ ap (λ (b : Bool). eqb (c .before .before .before .entry .result) i || b) (l .inv .2 i)
           ∙ rw number (sym (met-more i (l .k) list less)),
     )

@@ -4,6 +4,7 @@ use native.Mathlib.Omega.{arith}
 use borrow.Author.Tests.{not-true, not-false}
 use Rattle.damper.specs.Tick.{advance, due}
 use Rattle.damper.specs.Laws.{wf-ranges, wf-flags}
+use Rattle.choice.specs.Choice.{keyOf}
 use Rattle.hall_tick.specs.Chosen.{held-formed, held-unformed}
 use Rattle.hall_tick.proofs.hold_one.Statement.{statement}
 use Rattle.hall_tick.proofs.hold_one.Tie as tie
@@ -23,15 +24,18 @@ advance-requires c κs =
 -- well formed
 returns-2 : tie.Need-returns-2
 returns-2 c =
-    let d = c .before .before .before .before .before .before .before .before .before .before .before .before .before .args .d in
+    let given = c .before .before .before .before .before .before .before .before .before .before .before .before .before .args in
+    let d = given .d in
     let w = sym (c .before .before .before .before .before .before .before .before .before .before .before .before .well-formed .ensures) ∙ not-false _ (c .before .before .before .before .before .before .before .before .before .before .before .if1 .left) in
     let f = held-formed d w in
     let a = c .before .before .before .before .before .before .before .before .before .before .advance .ensures in
     let st = c .before .before .before .before .before .before .before .before .status .ensures in
-    let q : c .before .before .before .before .before .before .before .due .result ≡ due (advance d .drive) = c .before .before .before .before .before .before .before .due .ensures ∙ rw (st, a) in (
+    let q : c .before .before .before .before .before .before .before .due .result ≡ due (advance d .drive) =
+    simp (st, a) at (c .before .before .before .before .before .before .before .due .ensures) in
+    let key : c .before .key .result ≡ keyOf (due (advance d .drive)) (d .wait) (given .place) = rw q at (c .before .key .ensures) in (
       c .before .before .before .with-wait .ensures ∙ rw (c .before .before .before .before .pick16 .ensures, c .before .before .before .before .before .next16 .ensures, q, a) (sym (f .0)),
       c .before .before .pick32 .ensures ∙ rw (q, st, a) (sym (f .1)),
-      c .max32 .ensures ∙ rw (c .before .key .ensures, q, f .2),
+      c .max32 .ensures ∙ rw (key, f .2),
     )
 
 pub hold-one-spec : {M : Type 1} → statement M
