@@ -27,11 +27,11 @@ returns-2 c = rw (c .before .match .keys2) (simp (c .pick82 .ensures))
 
 returns-3 : tie.Need-returns-3
 unfolding dataRefusal formOf
-returns-3 c = rw (c .before .before .before .match .keys3) (simp (c .pick85 .ensures, c .before .pick84 .ensures, c .before .before .pick83 .ensures))
+returns-3 c = rw (c .before .before .before .match .keys3) (simp (c .pick85 .ensures, c .before .pick84 .ensures, c .before .before .pick83 .ensures) refl)
 
 returns-4 : tie.Need-returns-4
 unfolding dataRefusal formOf
-returns-4 c = rw (c .before .before .match .keys4) (simp (c .pick87 .ensures, c .before .pick86 .ensures))
+returns-4 c = rw (c .before .before .match .keys4) (simp (c .pick87 .ensures, c .before .pick86 .ensures) refl)
 
 returns-5 : tie.Need-returns-5
 unfolding dataRefusal formOf

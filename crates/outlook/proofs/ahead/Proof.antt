@@ -1,5 +1,5 @@
 use Rattle.outlook.specs.Outlook.{outlookOf}
-use mathlib.Core.Path.{sym, _∙_}
+use mathlib.Core.Path.{refl, sym, _∙_}
 use borrow.Author.Tests.{not-true, not-false}
 use Rattle.damper.specs.Tick.{aged}
 use Rattle.damper.specs.Laws.{wf-ranges, wf-flags}
@@ -43,7 +43,7 @@ returns-2 c =
       c .before .before .before .before .before .before .before .before .before .advance .ensures,
       ruled .ruling .ensures .0,
       ruled .before .aged .ensures,
-    ))
+    ) refl)
 
 pub ahead-spec : {M : Type 1} → statement M
 ahead-spec =

@@ -1,4 +1,5 @@
 use Rattle.audit.specs.Audit as A
+use mathlib.Core.Path.{refl}
 use borrow.Author.Needs.{needs}
 use Rattle.audit.proofs.Audit.followed.Statement.{statement}
 use Rattle.audit.proofs.Audit.followed.Tie as tie
@@ -15,7 +16,7 @@ returns c =
       known .before .pick-last .ensures,
       known .before .before .counted2 .ensures,
       known .before .before .before .counted .ensures,
-    )
+    ) refl
 
 pub followed-spec : {M : Type 1} → statement M
 followed-spec =

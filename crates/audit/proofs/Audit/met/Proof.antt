@@ -1,5 +1,5 @@
 use Rattle.audit.specs.Audit.{metBy}
-use mathlib.Core.Path.{sym}
+use mathlib.Core.Path.{refl, sym}
 use Rattle.damper.specs.Laws.{wf-ranges, wf-flags}
 use borrow.Author.Needs.{needs}
 use Rattle.audit.proofs.Audit.met.Statement.{statement}
@@ -25,7 +25,7 @@ returns c =
       before .before .before .kind-in .ensures,
       before .before .before .before .said-in .ensures,
       before .before .before .before .before .before .step-if .ensures,
-    )
+    ) refl
 
 pub met-spec : {M : Type 1} → statement M
 met-spec =
