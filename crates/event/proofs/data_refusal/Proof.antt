@@ -31,7 +31,7 @@ returns-3 c = rw (c .before .before .before .match .keys3) (simp (c .pick85 .ens
 
 returns-4 : tie.Need-returns-4
 unfolding dataRefusal formOf
-returns-4 c = rw (c .before .before .match .keys4) (simp (c .pick87 .ensures, c .before .pick86 .ensures) refl)
+returns-4 c = rw (c .before .before .match .keys4) (simp (c .pick87 .ensures, c .before .pick86 .ensures))
 
 returns-5 : tie.Need-returns-5
 unfolding dataRefusal formOf

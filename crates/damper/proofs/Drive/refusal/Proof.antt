@@ -1,5 +1,5 @@
 use Rattle.damper.specs.Step.{refusalOf}
-use mathlib.Core.Path.{refl, sym, _∙_}
+use mathlib.Core.Path.{sym, _∙_}
 use borrow.Author.Tests.{not-true, not-false, eq-eqb, ne-eqb}
 use Rattle.event.specs.Laws.{record-passed}
 use Rattle.rules.specs.Refusal.{refusal}
@@ -28,7 +28,7 @@ returns-3 c =
     let n = c .before .before .before .before .before .before .refusal in
     rw (← (start .pre), not-false (start .args .formed) (c .before .before .before .before .before .before .before .if1 .left))
     (rw (← (n .ensures), eq-eqb (n .result) 0 (c .before .before .before .before .before .if2 .left))
-    (rw (c .state-refusal .ensures, c .before .forbids-run .ensures, c .before .before .before .event-in .ensures) refl))
+    (rw (c .state-refusal .ensures, c .before .forbids-run .ensures, c .before .before .before .event-in .ensures)))
 
 pub refusal-spec : {M : Type 1} → statement M
 refusal-spec = tie.close (tie.spec returns (λ c κs. search needs) returns-2 event-in-requires (λ c. search needs) (λ c. search needs) (λ c. search needs) (λ c κs. search needs) (λ c κs. search needs) returns-3)
