@@ -11,7 +11,7 @@ returns : tie.Need-returns
 unfolding outlookOf
 returns c =
     let w = c .before .well-formed in
-    rw (← (w .ensures), not-true (w .result) (c .if1 .taken))
+    rw (← (w .ensures), not-true (w .result) (c .if1 .taken)) refl
 
 ruling-requires : tie.Need-ruling-requires
 unfolding aged
@@ -43,7 +43,7 @@ returns-2 c =
       c .before .before .before .before .before .before .before .before .before .advance .ensures,
       ruled .ruling .ensures .0,
       ruled .before .aged .ensures,
-    ) refl)
+    ))
 
 pub ahead-spec : {M : Type 1} → statement M
 ahead-spec =

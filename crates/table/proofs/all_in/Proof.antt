@@ -2,10 +2,10 @@
 use borrow.Author.Needs.{needs}
 use mathlib.Core.Path.{_≡_, refl, sym, ap, _∙_}
 use mathlib.Core.Bool.{Bool, _&&_, and-true, and-assoc}
-use Prim.Native.Nat.{_≤_, _+_, _-_}
+use Prim.Native.Nat.{_≤_, _-_}
 use native.Mathlib.Omega.{arith}
-use lib.ListN.{drop, getD, length}
-use Rattle.table.specs.Table.{allIn, inRange, rowAt, rows}
+use lib.ListN.{drop, length}
+use Rattle.table.specs.Table.{allIn, rows}
 use Rattle.table.specs.Laws.{turn, past}
 use Rattle.table.proofs.all_in.Statement.{statement}
 use Rattle.table.proofs.all_in.Tie as tie
@@ -49,7 +49,7 @@ loop-again c =
       search needs,
       l .inv .2
           ∙ ap (λ (b : Bool). l .ok && b) (turn rows p (l .i) (c .before .before .loop-test .taken) (omega arith))
-          ∙ rw (c .in-range .ensures) (sym (and-assoc (l .ok) (inRange (rowAt rows (l .i)) (getD p (l .i) 0)) (allIn (drop (l .i + 1) rows) (drop (l .i + 1) p)))),
+          ∙ rw (c .in-range .ensures) (sym (and-assoc (l .ok) _ _)),
     )
 
 returns : tie.Need-returns Inv-loop μ-loop

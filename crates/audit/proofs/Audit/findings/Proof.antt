@@ -1,5 +1,4 @@
 use Rattle.audit.specs.Audit.{findingsOf}
-use mathlib.Core.Path.{refl}
 use borrow.Author.Needs.{needs}
 use Rattle.audit.proofs.Audit.findings.Statement.{statement}
 use Rattle.audit.proofs.Audit.findings.Tie as tie
@@ -13,7 +12,7 @@ returns c =
       known .before .counted2 .ensures,
       known .before .before .counted .ensures,
       known .before .before .before .status .ensures,
-    ) refl
+    )
 
 pub findings-spec : {M : Type 1} → statement M
 findings-spec =

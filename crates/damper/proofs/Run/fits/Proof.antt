@@ -2,7 +2,6 @@ use Rattle.damper.specs.WellFormed.{runFits}
 use Prim.Native.Nat.{_<_}
 use native.Mathlib.Nat.{lt-of-le-of-lt, mul-le-mul, le-pred-of-lt}
 use lib.Dec.{lit<}
-use mathlib.Core.Path.{refl}
 use borrow.Author.Tests.{ne-eqb}
 use Rattle.motion.specs.Laws.{run-ticks-test}
 use borrow.Author.Needs.{needs}
@@ -22,7 +21,7 @@ returns-2 : tie.Need-returns-2
 unfolding runFits
 returns-2 c =
     let a = c .before .before .before .args in
-    simp (ne-eqb _ _ (c .before .if1 .left), run-ticks-test (a .rate) (a .self .left) (c .before .before .before .pre)) refl
+    simp (ne-eqb _ _ (c .before .if1 .left), run-ticks-test (a .rate) (a .self .left) (c .before .before .before .pre))
 
 pub fits-spec : {M : Type 1} → statement M
 fits-spec = tie.close (tie.spec returns (λ c. search needs) mul-bounded (λ c. search needs) returns-2)
