@@ -1,8 +1,8 @@
 -- Readings of the list of events that look right and are wrong: each differs in one thing from the one of the crate `history`, and a short
 -- list of event records shows it. What document 01 reads off that list is written out as a number.
 use mathlib.Core.Path.{_≡_, refl, sym}
-use mathlib.Core.Bool.{Bool, true, false, not, _&&_, _||_, false≢true}
-use mathlib.Core.List.{List, [], _∷_, _++_}
+use mathlib.Core.Bool.{Bool, true, not, _&&_, _||_, false≢true}
+use mathlib.Core.List.{List, [], _∷_}
 use Prim.Native.Nat.{ℕ, _*_, _/_}
 use lib.Dec.{ltb, eqb}
 use lib.ListN.{length}
