@@ -4,17 +4,18 @@ use mathlib.Core.Bool.{true}
 use mathlib.Core.List.{List, [], _∷_, map}
 use Prim.Native.Nat.{ℕ, _-_, _<_, _≤_}
 use native.Mathlib.Omega.{arith}
-use lib.ListN.{length, getD, replicate, take}
-use Rattle.numbers.specs.Every.{Every}
+use lib.ListN.{length, getD, replicate, set, take}
+use Rattle.numbers.specs.Every.{Every, none, more}
 use Rattle.table.specs.Table.{rate}
 use Rattle.event.specs.Event.{event, bytesOf, eventIn}
 use Rattle.event.specs.Kinds as Kind
 use Rattle.motion.specs.Motion.{runTicks}
 use Rattle.rules.specs.Commands.{commands}
-use Rattle.rules.specs.Rank.{Source, backup, bus, tool, hand}
+use Rattle.rules.specs.Rank.{Source, backup, bus, tool, hand, targetOf}
 use Rattle.damper.specs.declared.Drive.{Drive}
 use Rattle.damper.specs.Record.{drive, last, noRun}
 use Rattle.damper.specs.WellFormed.{wellFormed}
+use Rattle.damper.specs.Tick.{rulingSource}
 use Rattle.damper.specs.Step.{stepOf}
 use Rattle.history.specs.Readings.{isTick}
 use Rattle.arrival.specs.Arrival.{tickSource, tickTarget, Ruled, drivesFound, after, RuledForK, tickAccepted, rateWritten}
@@ -120,6 +121,32 @@ first-target-is-wrong = (
   λ r.
       let targets : _≡_ {A = List ℕ} (255 ∷ 0 ∷ 0 ∷ []) (255 ∷ 255 ∷ 255 ∷ []) = ruled-targets (r .ruled) in
       let second : 0 ≡ℕ 255 = ap (λ (ts : List ℕ). getD ts 1 0) targets in
+      absurd (omega arith),
+)
+
+-- Source and target are those of the record as it stands before the tick, whose first step is not done.
+abbrev RuledBefore : Source → ℕ → Drive → Type 0
+RuledBefore c t d = (rulingSource d ≡ c) × (targetOf (d .commands) (d .run .kind) (d .position) (d .params) (rulingSource d) ≡ t)
+
+abbrev BeforeFirstStep : Conditions
+BeforeFirstStep d l c t =
+    (d .position < 256) × Every (RuledBefore c t) (ticksFound d l) × (writesFound d l ≡ []) × (runTicks (rate (d .params)) ≤ length (ticksFound d l))
+
+-- Timeout 3, and a setpoint whose age is 1, 2 and 3 before three ticks: at the last of them it is 4, and backup rules.
+abbrev aging : Drive
+aging = drive 0 (set (rated 100) 7 3) (commands 0 0 0 0 0 0 1 255) 1 noRun 0 (last 0 0 0) 0
+
+pub before-first-step-is-wrong : (Arrives BeforeFirstStep → ⊥) × Unmet aging (replicate 3 tickBytes) bus 255
+unfolding computation
+before-first-step-is-wrong = (
+  λ f.
+      let reached : 100 ≡ℕ 255 =
+      f aging (replicate 3 tickBytes) bus 255 refl
+      (omega arith, more (refl, refl) (more (refl, refl) (more (refl, refl) none)), refl, omega arith) in
+      absurd (omega arith),
+  λ r.
+      let targets : _≡_ {A = List ℕ} (255 ∷ 255 ∷ 0 ∷ []) (255 ∷ 255 ∷ 255 ∷ []) = ruled-targets (r .ruled) in
+      let third : 0 ≡ℕ 255 = ap (λ (ts : List ℕ). getD ts 2 0) targets in
       absurd (omega arith),
 )
 

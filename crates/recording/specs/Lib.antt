@@ -7,3 +7,4 @@ pub mod Theorem
 pub mod Own
 pub mod Same
 pub mod Witnesses
+pub mod Wordings

@@ -48,18 +48,18 @@ abbrev pub foundIn : List Heard → List (List Finding)
 foundIn l = map namesIn (findingsFrom freshAudit l)
 
 -- `unfolding computation` opens the drive and the audit, so that a recording computes
-unfoldable computation : Unit {0}
+unfoldable pub computation : Unit {0}
 unfolding Drive.computation metBy findingsOf followed auditOf findingsFrom
 computation = tt
 
 -- the records, with what they are answered
-abbrev tick : Answer → Heard
+abbrev pub tick : Answer → Heard
 tick y = record { bytes = bytesOf (event Kind.tick 0 0 0); answer = y }
 
-abbrev setpoint : ℕ → Answer → Heard
+abbrev pub setpoint : ℕ → Answer → Heard
 setpoint v y = record { bytes = bytesOf (event Kind.setpoint v 0 0); answer = y }
 
-abbrev read : Answer → Heard
+abbrev pub read : Answer → Heard
 read y = record { bytes = bytesOf (event Kind.readPosition 0 0 0); answer = y }
 
 abbrev minRepTime : ℕ → Heard

@@ -3,12 +3,13 @@
 use mathlib.Core.Path.{_≡_, refl, sym, ap, _∙_}
 use mathlib.Core.Bool.{Bool, true, not, _&&_, false≢true}
 use mathlib.Core.List.{List, [], _∷_}
-use Prim.Native.Nat.{ℕ}
+use Prim.Native.Nat.{ℕ, _/_, _%_}
 use lib.Dec.{eqb}
 use borrow.Author.Tests.{eq-eqb, not-true}
 use Rattle.numbers.specs.Laws.{and-intro}
 use Rattle.answer.specs.declared.Answer.{Answer}
-use Rattle.answer.specs.Answer.{wordOf, codeOf}
+use Rattle.answer.specs.declared.Answer.the-variants.{Report}
+use Rattle.answer.specs.Answer.{wordOf, codeOf, answerOf}
 use Rattle.damper.specs.declared.Drive.{Drive}
 use Rattle.damper.specs.Record.{freshDrive}
 use Rattle.damper.specs.Step.{stepOf}
@@ -63,3 +64,11 @@ differs =
     (λ r. differs-by (r .step (driveOf (r .before)) (r .bytes) .answer) (stepOf (driveOf (r .before)) (r .bytes) .answer))
     table
     refl
+
+-- Of a host: the values of a report counted from the lowest digit of base 256, so that position and status are exchanged.
+abbrev fromTheLowest : ℕ → Answer
+fromTheLowest n = Report (n % 256) (n / 256 % 256) (n / 65536 % 256) (n / 16777216 % 256)
+
+-- Position 1, rank 2, motor 3 and status 4 are the number 01020304 (hexadecimal), whose lowest digit is the status.
+pub digits-in-order : (codeOf (Report 1 2 3 4) ≡ 0x01020304) × (answerOf 5 0x01020304 ≡ Report 1 2 3 4) × (fromTheLowest 0x01020304 ≡ Report 4 3 2 1)
+digits-in-order = (refl, refl, refl)

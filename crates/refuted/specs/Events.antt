@@ -22,6 +22,10 @@ badSetpoint a = bytesOf (event Kind.setpoint a 1 0)
 abbrev pub normalWrite : ℕ → List ℕ
 normalWrite b = bytesOf (event Kind.lteSetpoint 51 b Kind.normal)
 
+-- the LTE setpoint of DamperMode 2: refused by 9 in DamperMode 1
+abbrev pub otherProperty : ℕ → List ℕ
+otherProperty b = bytesOf (event Kind.lteSetpoint 52 b Kind.normal)
+
 abbrev pub override : ℕ → List ℕ
 override b = bytesOf (event Kind.lteSetpoint 51 b Kind.override)
 

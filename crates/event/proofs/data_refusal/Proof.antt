@@ -27,7 +27,7 @@ returns-2 c = rw (c .before .match .keys2) (simp (c .pick82 .ensures))
 
 returns-3 : tie.Need-returns-3
 unfolding dataRefusal formOf
-returns-3 c = rw (c .before .before .before .match .keys3) (simp (c .pick85 .ensures, c .before .pick84 .ensures, c .before .before .pick83 .ensures))
+returns-3 c = rw (c .before .before .before .match .keys3) (simp (c .pick85 .ensures, c .before .pick84 .ensures, c .before .before .pick83 .ensures) refl)
 
 returns-4 : tie.Need-returns-4
 unfolding dataRefusal formOf

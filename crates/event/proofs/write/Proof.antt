@@ -37,9 +37,10 @@ returns-3 : tie.Need-returns-3
 unfolding writeRefusal writtenTo
 returns-3 c =
     let z = c .if2 .left in
+    let a = c .before .before .before .before .args in
     let l = c .before .before .if1 .left in (
       simp (le-ltb _ _ l, ← (c .before .data-refusal .ensures), z),
-      simp (le-ltb _ _ l, ← (c .before .data-refusal .ensures), eq-eqb _ _ z) (stored (c .before .before .before .before .args .buf .now) (event _ _ _ _) l),
+      simp (le-ltb _ _ l, ← (c .before .data-refusal .ensures), eq-eqb _ _ z) (stored (a .buf .now) (event (a .kind) (a .a) (a .b) (a .c)) l),
     )
 
 pub write-spec : {M : Type 1} → statement M

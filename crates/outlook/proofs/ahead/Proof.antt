@@ -1,7 +1,7 @@
-use Rattle.outlook.specs.Outlook.{outlookOf}
-use mathlib.Core.Path.{sym, _∙_}
+use Rattle.outlook.specs.Outlook.{outlookAfter, outlookOf}
+use mathlib.Core.Path.{refl, sym, _∙_}
 use borrow.Author.Tests.{not-true, not-false}
-use Rattle.damper.specs.Tick.{aged}
+use Rattle.damper.specs.Tick.{aged, ruling, targetAt, advance}
 use Rattle.damper.specs.Laws.{wf-ranges, wf-flags}
 use borrow.Author.Needs.{needs}
 use Rattle.outlook.proofs.ahead.Statement.{statement}
@@ -11,7 +11,7 @@ returns : tie.Need-returns
 unfolding outlookOf
 returns c =
     let w = c .before .well-formed in
-    rw (← (w .ensures), not-true (w .result) (c .if1 .taken))
+    rw (← (w .ensures), not-true (w .result) (c .if1 .taken)) refl
 
 ruling-requires : tie.Need-ruling-requires
 unfolding aged
@@ -35,6 +35,8 @@ unfolding outlookOf
 returns-2 c =
     let ruled = c .before .before .before .before .before .before .before .before .before .before in
     let w = ruled .before .before .before .well-formed in
+    let d = ruled .before .before .before .before .args .d in
+    let a = aged d in
     rw (← (w .ensures), not-false (w .result) (ruled .before .before .if1 .left))
     (simp (
       c .before .before .before .target .ensures,
@@ -43,7 +45,7 @@ returns-2 c =
       c .before .before .before .before .before .before .before .before .before .advance .ensures,
       ruled .ruling .ensures .0,
       ruled .before .aged .ensures,
-    ))
+    ) (refl {a = outlookAfter (ruling a) (targetAt a (ruling a)) (advance d .drive)}))
 
 pub ahead-spec : {M : Type 1} → statement M
 ahead-spec =

@@ -1,4 +1,5 @@
 use Rattle.rules.specs.Refusal.{stateRefusal}
+use mathlib.Core.Path.{refl}
 use borrow.Author.Tests.{ne-eqb}
 use borrow.Author.Needs.{needs}
 use Rattle.rules.proofs.state_refusal.Statement.{statement}
@@ -6,7 +7,7 @@ use Rattle.rules.proofs.state_refusal.Tie as tie
 
 returns : tie.Need-returns
 unfolding stateRefusal
-returns c = rw (c .before .before .match .keys1) (simp (c .pick8 .ensures))
+returns c = rw (c .before .before .match .keys1) (simp (c .pick8 .ensures) refl)
 
 returns-2 : tie.Need-returns-2
 unfolding stateRefusal
@@ -14,7 +15,7 @@ returns-2 c = rw (c .before .match .keys2) (simp (c .pick82 .ensures))
 
 returns-3 : tie.Need-returns-3
 unfolding stateRefusal
-returns-3 c = rw (c .before .before .before .before .before .before .before .before .match .keys3) (simp (c .pick85 .ensures, c .before .pick84 .ensures, c .before .before .pick83 .ensures, c .before .before .before .before .takes .ensures, c .before .before .before .before .before .before .before .value-of .ensures))
+returns-3 c = rw (c .before .before .before .before .before .before .before .before .match .keys3) (simp (c .pick85 .ensures, c .before .pick84 .ensures, c .before .before .pick83 .ensures, c .before .before .before .before .takes .ensures, c .before .before .before .before .before .before .before .value-of .ensures) refl)
 
 returns-4 : tie.Need-returns-4
 unfolding stateRefusal

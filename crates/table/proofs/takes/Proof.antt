@@ -52,7 +52,7 @@ returns-2 c =
     let w = c .before .loop in
     let p : placeFrom rows 0 (c .before .before .args .n) ≡ w .i =
     cc (w .inv .1, none rows _ (c .before .before .args .n) (c .loop-test .left)) in
-    rw (p, le-ltb _ _ (c .loop-test .left))
+    rw (p, le-ltb _ _ (c .loop-test .left)) refl
 
 pub takes-spec : {M : Type 1} → statement M
 takes-spec =

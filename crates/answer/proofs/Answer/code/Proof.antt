@@ -1,9 +1,10 @@
+use mathlib.Core.Path.{refl}
 use borrow.Author.Needs.{needs}
 use Rattle.answer.proofs.Answer.code.Statement.{statement}
 use Rattle.answer.proofs.Answer.code.Tie as tie
 
 returns-4 : tie.Need-returns-4
-returns-4 c = rw (c .before .self3 .given .1)
+returns-4 c = rw (c .before .self3 .given .1) refl
 
 returns-5 : tie.Need-returns-5
 returns-5 c = rw (c .before .self4 .given .1)

@@ -1,4 +1,5 @@
 use Rattle.audit.specs.Audit as A
+use mathlib.Core.Path.{refl}
 use borrow.Author.Needs.{needs}
 use Rattle.audit.proofs.Audit.followed.Statement.{statement}
 use Rattle.audit.proofs.Audit.followed.Tie as tie
@@ -7,6 +8,7 @@ returns : tie.Need-returns
 unfolding A.followed
 returns c =
     let known = c .before .before .before .before .before in
+    let given = known .before .before .before .before .args in
     simp (
       c .pick162 .ensures,
       c .before .with-heard .ensures,
@@ -15,7 +17,7 @@ returns c =
       known .before .pick-last .ensures,
       known .before .before .counted2 .ensures,
       known .before .before .before .counted .ensures,
-    )
+    ) (refl {a = A.followed (given .self) (given .m) (given .said)})
 
 pub followed-spec : {M : Type 1} → statement M
 followed-spec =

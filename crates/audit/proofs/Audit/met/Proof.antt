@@ -1,5 +1,5 @@
 use Rattle.audit.specs.Audit.{metBy}
-use mathlib.Core.Path.{sym}
+use mathlib.Core.Path.{refl, sym}
 use Rattle.damper.specs.Laws.{wf-ranges, wf-flags}
 use borrow.Author.Needs.{needs}
 use Rattle.audit.proofs.Audit.met.Statement.{statement}
@@ -17,6 +17,7 @@ returns : tie.Need-returns
 unfolding metBy
 returns c =
     let before = c .before .before .before .before .before in
+    let given = before .before .before .before .before .before .before .before .before .args in
     simp (
       c .before .before .code .ensures,
       c .before .before .before .word .ensures,
@@ -25,7 +26,7 @@ returns c =
       before .before .before .kind-in .ensures,
       before .before .before .before .said-in .ensures,
       before .before .before .before .before .before .step-if .ensures,
-    )
+    ) (refl {a = metBy (given .self) (given .s .now)})
 
 pub met-spec : {M : Type 1} → statement M
 met-spec =

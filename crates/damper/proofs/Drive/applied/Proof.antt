@@ -37,7 +37,7 @@ returns-5 c = rw (c .before .match .keys3) (simp (c .commanded .ensures))
 
 returns-6 : tie.Need-returns-6
 unfolding applied obeyed
-returns-6 c = rw (c .before .before .before .match .keys4) (simp (c .pick-run .ensures, c .before .before .forbids-run .ensures))
+returns-6 c = rw (c .before .before .before .match .keys4) (simp (c .pick-run .ensures, c .before .before .forbids-run .ensures) refl)
 
 returns-7 : tie.Need-returns-7
 unfolding applied obeyed
