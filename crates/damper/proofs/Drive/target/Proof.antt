@@ -1,5 +1,5 @@
 use Rattle.damper.specs.Tick.{targetAt}
-use mathlib.Core.Path.{_≡_}
+use mathlib.Core.Path.{_≡_, refl}
 use native.Mathlib.Omega.{arith}
 use Rattle.rules.specs.Rank.{targets}
 use borrow.Author.Needs.{needs}
@@ -12,7 +12,7 @@ returns c = rw (c .match .keys1)
 
 returns-2 : tie.Need-returns-2
 unfolding targetAt targets
-returns-2 c = rw (c .before .before .match .keys2) (simp (c .pick8 .ensures))
+returns-2 c = rw (c .before .before .match .keys2) (simp (c .pick8 .ensures) refl)
 
 returns-3 : tie.Need-returns-3
 unfolding targetAt targets
