@@ -40,8 +40,7 @@ howOften x (y ∷ list) = choose (y is x) 1 0 + howOften x list
 
 -- "a tick that the reader accepts": none of 2 to 8 fits, and the kind is 1
 abbrev pub acceptedTick : List ℕ → Bool
-acceptedTick s =
-    firstThatFits (P1.ofTheBytes s ++ P1.ofTheData (getD s 2 0) (getD s 3 0) (getD s 4 0) (getD s 5 0)) is 0 && getD s 2 0 is 1
+acceptedTick s = firstThatFits (P1.ofTheReader s) is 0 && getD s 2 0 is 1
 
 -- "14 when the row holds no drive or over 64."
 abbrev pub ofTheRow : ℕ → Condition
@@ -72,14 +71,10 @@ answerTo n c = firstThatFits (ofTheCall n c)
 
 -- ── W-204: quiet line ──
 
--- step 4 of a tick would report, by the record that steps 1 to 3 leave
-abbrev pub WouldReport : Drive → Type 0
-WouldReport n = P1.Due (n .params) (n .since) (n .position) (statusOf n) (n .last .reported) (n .last .position) (n .last .status)
-
--- "A well-formed drive is due when the fourth step of a tick would report."
+-- "A well-formed drive is due when the fourth step of a tick would report.", by the record that steps 1 to 3 leave
 pub record Due (d : Drive) : Type 0 where
   pub formed : P1.WellFormed d
-  pub reports : WouldReport (advance d .drive)
+  pub reports : P1.DueIn (advance d .drive)
 
 -- of the due drives with a number below `n`, "the one that waited longest .., lower number first among equals"
 pub record Longest (row : List Drive) (n i : ℕ) : Type 0 where

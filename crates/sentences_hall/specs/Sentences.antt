@@ -1,6 +1,10 @@
--- The page to read first. Each sentence of document 02's W-201, W-203, W-204 and W-205, as they stand together, that a definition of the
--- product states is here a theorem for every input: on one side the definition that the contracts name, on the other the sentence as
--- `Paper` says it a second time. `P1` is document 01 in its second form: a drive's step, its advance and its status have their page there.
+-- Halls. Each sentence of document 02's W-201, W-203, W-204 and W-205, as they stand together, that a definition of the product states is
+-- here a theorem for every input: on one side the definition that the contracts name, on the other the sentence as `Paper` says it a
+-- second time. A drive's step, its advance and its status have their page in the crate sentences.
+--
+-- How to read it: crates/sentences/specs/Sentences.antt.
+--   `P.` document 02 in its second form (Paper.antt); `P1.` document 01 in its second form (crates/sentences/specs/Paper.antt); `F.` the
+--   fields of a drive record; `Quota.` the product's definitions
 use mathlib.Core.Path.{_≡_, refl}
 use mathlib.Core.Logic.{_↔_}
 use mathlib.Core.Bool.{Bool, true, false, not, _&&_, _||_}
@@ -174,9 +178,9 @@ pub tick-may-send : (row : List Drive) (quota : ℕ) (sends : ℕ → Bool) (roo
     → (allowedCall row (tick quota sends room) ≡ true) ↔ (P.answerTo (length row) (tick quota sends room) ≡ 0 → P.MaySend quota row sends)
 tick-may-send row quota sends room = Senders.same-allowed-call quota row sends room
 
--- an event call sends nobody
-pub event-sends-none : (row : List Drive) (list s : List ℕ) (room : ℕ) → allowedCall row (give list s room) ≡ true
-event-sends-none row list s room = refl
+-- an event call is always allowed: who is sent is a question of hall ticks alone
+pub event-allowed : (row : List Drive) (list s : List ℕ) (room : ℕ) → allowedCall row (give list s room) ≡ true
+event-allowed row list s room = refl
 
 -- and of a list of calls, each on the row that the one before left
 pub none-may-send : (row : List Drive) → allowedCalls row [] ≡ true
@@ -194,7 +198,7 @@ some-longest row k h f = Senders.some-longest row k h f
 pub one-longest : (row : List Drive) (i j : ℕ) → P.Longest row (length row) i → P.Longest row (length row) j → i ≡ j
 one-longest row i j r t = Senders.one-longest row (length row) i j r t
 
--- some set may be sent, of every row and quota
+-- some set may be sent, of every row and a quota of at least 1
 pub some-set : (quota : ℕ) (row : List Drive) → 1 ≤ quota → (sends : ℕ → Bool) × (allowed quota row sends ≡ true)
 some-set quota row h = Senders.some-set quota row h
 
