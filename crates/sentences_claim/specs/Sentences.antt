@@ -6,7 +6,8 @@
 --   `S.` demand 3 and the audit in their second form (Paper.antt); `P.` document 01 in its second form (crates/sentences/specs/Paper.antt);
 --   `C.`, `R.` and `Log.` the product's definitions, of the claim, of what is read off a list of events and of the log; `F.` the fields
 --   of a drive record
--- Histories and traces have the latest first: `m ∷ t` is the record m after the trace t, and `new ++ old` what came after `old`, then `old`.
+-- Histories and traces have the latest first: `m ∷ t` is the record m after the trace t, and `new ++ old` the trace `old` and what came
+-- after it.
 use mathlib.Core.Path.{_≡_}
 use mathlib.Core.Logic.{_↔_}
 use mathlib.Core.Bool.{true}

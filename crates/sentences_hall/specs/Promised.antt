@@ -9,7 +9,7 @@ use lib.Dec.{eqb}
 use lib.ListN.{length}
 use lib.Seq.{append-snoc}
 use borrow.Author.Tests.{eqb-true, ne-eqb}
-use Rattle.numbers.specs.Laws.{cases, and-left, and-right, and-intro, or-left}
+use Rattle.numbers.specs.Laws.{cases, and-left, and-right, and-intro}
 use Rattle.answer.specs.Answer.{numberOf}
 use Rattle.answer.specs.declared.Answer.the-variants.{No, Tick, Report}
 use Rattle.damper.specs.declared.Drive.{Drive}
@@ -25,7 +25,7 @@ use Rattle.hall.specs.Quota.{dueNow, hallTicked, hallStep, allowedCall, allowed
 use Rattle.hall.specs.Laws.{row-length}
 use Rattle.history.specs.Claim.{Moment, Trace, momentOf, traceOn}
 use Rattle.shares.specs.Shares.{share-append, share-drive, share-answers}
-use Rattle.shares.specs.WaitLaws.{restart, formed-ticked}
+use Rattle.shares.specs.WaitLaws.{restart}
 use Rattle.shares.specs.Bound as Bound
 use Rattle.shares.specs.Bound.{ticksGiven, dueAtEach, sentAtOne, restarted}
 use Rattle.shares.specs.Theorem.{shareTrace, share-claim}
@@ -116,7 +116,8 @@ module _ (n i : ℕ) (h : i < n) where
       subst (Own n i (give list s room)) (sym (Shared.named-share n i [] list s room e l ∙ one (bytes s))) (named list s room e l))
       (λ q.
       let l : P.Listed i list → ⊥ = λ x. false≢true (sym q ∙ same-named i list .1 x) in
-      subst (Own n i (give list s room)) (sym (Shared.unnamed-share n i [] list s room e l ∙ Shared.no-calls n i)) (not-named list s room e l))
+      subst (Own n i (give list s room)) (sym (Shared.unnamed-share n i [] list s room e l ∙ Shared.no-calls n i))
+      (not-named list s room e l))
   own-by (tick quota sends room) zero e =
       subst (Own n i (tick quota sends room)) (sym (Shared.tick-share n i [] quota sends room e h ∙ one (hallTick (sends i))))
       (ticked quota sends room e)
@@ -161,7 +162,8 @@ module _ (row : List Drive) (i : ℕ) (h : i < length row) where
   trace-none cs c e =
       trace-is (cs ++ (c ∷ []))
       ∙ ap traced
-      (share-append (length row) i cs (c ∷ []) ∙ ap (λ (gs : List Given). share (length row) i cs ++ gs) e ∙ append-nil (share (length row) i cs))
+      (share-append (length row) i cs (c ∷ []) ∙ ap (λ (gs : List Given). share (length row) i cs ++ gs) e
+      ∙ append-nil (share (length row) i cs))
       ∙ sym (trace-is cs)
 
   trace-one : (cs : List Call) (c : Call) (g : Given) → share (length row) i (c ∷ []) ≡ g ∷ []
@@ -216,8 +218,8 @@ module _ (So : ℕ → (ℕ → Bool) → List Drive → Type 0) where
   at-none row [] quota sends room after e ok = absurd (nil≢cons e)
   at-none row (b ∷ before) quota sends room after e ok = absurd (nil≢cons e)
 
-  at-first : (row : List Drive) (cs : List Call) (quota : ℕ) (sends : ℕ → Bool) (room : ℕ) → P.AtEachTick So row (tick quota sends room ∷ cs)
-      → P.answerTo (length row) (tick quota sends room) ≡ 0 → So quota sends row
+  at-first : (row : List Drive) (cs : List Call) (quota : ℕ) (sends : ℕ → Bool) (room : ℕ)
+      → P.AtEachTick So row (tick quota sends room ∷ cs) → P.answerTo (length row) (tick quota sends room) ≡ 0 → So quota sends row
   at-first row cs quota sends room f ok = subst (So quota sends) (Shared.none-after row) (f [] quota sends room cs refl ok)
 
   at-later : (row : List Drive) (c : Call) (cs : List Call) → P.AtEachTick So row (c ∷ cs) → P.AtEachTick So (after row c) cs
@@ -278,7 +280,8 @@ module _ (n i : ℕ) where
   unfolding ticksGiven
   count-by c gs (refused (give list s room) k e) cs hs q = q
   count-by c gs (refused (tick quota sends room) k e) cs hs q =
-      let z : _≡_ {A = ℕ} (choose (P.answerTo n (tick quota sends room) is 0) 1 0) 0 = rw (e, ne-eqb (suc k) 0 (λ z. absurd (omega arith))) in
+      let z : _≡_ {A = ℕ} (choose (P.answerTo n (tick quota sends room) is 0) 1 0) 0 =
+      rw (e, ne-eqb (suc k) 0 (λ z. absurd (omega arith))) in
       omega (arith, q, z)
   count-by c gs (not-named list s room e l) cs hs q = q
   count-by c gs (named list s room e l) cs hs q = q
@@ -305,7 +308,9 @@ module _ (n i : ℕ) where
   no-restart : (d : Drive) (s : List ℕ) → (S.RestartOf d s → ⊥) → restart d s ≡ false
   no-restart d s f =
       cases (restart d s)
-      (λ q. absurd (f (sym (same-refusals d s) ∙ eqb-true _ 0 (and-left (eqb (refusalOf d s) 0) _ q), eqb-true _ 9 (and-right (eqb (refusalOf d s) 0) _ q))))
+      (λ q.
+      let taken : refusalOf d s ≡ 0 = eqb-true _ 0 (and-left (eqb (refusalOf d s) 0) _ q) in
+      absurd (f (sym (same-refusals d s) ∙ taken, eqb-true _ 9 (and-right (eqb (refusalOf d s) 0) _ q))))
       (λ q. q)
 
   restart-by : (c : Call) (gs : List Given) (d : Drive) → Own n i c gs
@@ -319,7 +324,8 @@ module _ (n i : ℕ) where
 
   -- sent
   sent-by : {X : Type 0} (c : Call) (gs : List Given) → Own n i c gs → (hs : List Given) → sentAtOne (gs ++ hs) ≡ true
-      → ((quota : ℕ) (sends : ℕ → Bool) (room : ℕ) → c ≡ tick quota sends room → P.answerTo n (tick quota sends room) ≡ 0 → sends i ≡ true → X)
+      → ((quota : ℕ) (sends : ℕ → Bool) (room : ℕ) → c ≡ tick quota sends room → P.answerTo n (tick quota sends room) ≡ 0
+      → sends i ≡ true → X)
       → (sentAtOne hs ≡ true → X) → X
   unfolding sentAtOne
   sent-by c gs (refused x k e) hs q now later = later q
@@ -328,7 +334,7 @@ module _ (n i : ℕ) where
   sent-by c gs (ticked quota sends room e) hs q now later =
       cases (sends i) (λ b. now quota sends room refl e b) (λ b. later (rw b at q))
 
--- a predicate of the drive after a call and of its later share, for the row after it
+-- over a list of calls
 pub due-each : (cs : List Call) (row : List Drive) (i : ℕ) → i < length row → P.DueAtEach row i cs
     → dueAtEach (at row i) (share (length row) i cs) ≡ true
 unfolding dueAtEach
@@ -439,7 +445,8 @@ pub finds-due : (row : List Drive) (cs : List Call) (i quota : ℕ) (sends : ℕ
     → (S.Waiting m t → ⊥) → P.Due (P.drive (hallAfter hallStep row cs) i)
 finds-due row cs i quota sends room h fresh a ok m t g k b =
     let whole = cs ++ (tick quota sends room ∷ []) in
-    let r = share-finds-due row cs i quota sends room h fresh (same-may-send row whole .1 a) (same-call (length row) (tick quota sends room) ∙ ok) in
+    let taken = same-call (length row) (tick quota sends room) ∙ ok in
+    let r = share-finds-due row cs i quota sends room h fresh (same-may-send row whole .1 a) taken in
     let same = sym (r .0) ∙ only row i h k in
     same-due-now (at (hallAfter hallStep row cs) i) .0
     (r .1 (λ w.

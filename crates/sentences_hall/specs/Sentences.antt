@@ -3,8 +3,9 @@
 -- second time. A drive's step, its advance and its status have their page in the crate sentences.
 --
 -- How to read it: crates/sentences/specs/Sentences.antt.
---   `P.` document 02 in its second form (Paper.antt); `P1.` document 01 in its second form (crates/sentences/specs/Paper.antt); `S.` demand 3
---   in its second form (crates/sentences_claim/specs/Paper.antt); `F.` the fields of a drive record; `Quota.` the product's definitions
+--   `P.` document 02 in its second form (Paper.antt); `P1.` document 01 in its second form (crates/sentences/specs/Paper.antt); `S.`
+--   demand 3 in its second form (crates/sentences_claim/specs/Paper.antt); `F.` the fields of a drive record; `Quota.` the product's
+--   definitions
 -- A list of calls has the first call first; a trace has the latest record first, and `m ∷ t` is the record m after the trace t.
 use mathlib.Core.Path.{_≡_, refl}
 use mathlib.Core.Logic.{_↔_}
@@ -21,8 +22,8 @@ use Rattle.damper.specs.Step.{refusalOf, stepOf}
 use Rattle.damper.specs.Carry.{answersIn}
 use Rattle.history.specs.Claim.{Moment, Trace}
 use Rattle.choice.specs.Sent.{sentBy}
-use Rattle.hall.specs.Hall.{badRow, badNumber, isTick, namedIn, namesTwice}
-use Rattle.hall.specs.Hall.{Call, give, tick, callRefusal, bytes, hallTick, turn, bytesIn, turnsOf, turned, rowAfter, answersAfter, hallAfter, share}
+use Rattle.hall.specs.Hall.{badRow, badNumber, isTick, namedIn, namesTwice, Call, give, tick, callRefusal, bytes, hallTick, bytesIn}
+use Rattle.hall.specs.Hall.{turn, turnsOf, turned, rowAfter, answersAfter, hallAfter, share}
 use Rattle.hall.specs.Quota as Quota
 use Rattle.hall.specs.Quota.{dueNow, hallTicked, hallStep, allowed, allowedCall, allowedCalls}
 use Rattle.shares.specs.Theorem.{shareTrace}
