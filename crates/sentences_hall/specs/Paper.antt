@@ -1,6 +1,7 @@
 -- Document 02, W-201, W-203, W-204 and W-205, sentence by sentence, in a second form. `P1` is document 01 in its second form, `S` demand 3
--- (crates/sentences_claim). From the product come its calls and, with theorems on the page, the row after calls (`hallAfter`), what a drive
--- makes of an event (`stepOf`) and of a hall tick (`hallTicked`).
+-- (crates/sentences_claim). From the product come its calls and a few words that have theorems of their own: on this page `hallAfter`
+-- (calls-after) and `hallTicked` (sent, held, not-due, sent-answer, silent-answer, unformed-answer), on that of the crate sentences
+-- `freshDrive`, `stepOf`, `advance`, `statusOf`, `toPercent` and `text`.
 use mathlib.Core.Path.{_≡_}
 use mathlib.Core.Bool.{Bool, true, not, _&&_, _||_}
 use mathlib.Core.List.{List, [], _∷_, _++_}
