@@ -18,7 +18,7 @@ use Rattle.rules.specs.RefusalLaws.{refusal-passed}
 use Rattle.answer.specs.declared.Answer.{Answer}
 use Rattle.answer.specs.declared.Answer.the-variants.{No, Done, Par, At, Tick, Report}
 use Rattle.answer.specs.Answer.{numberOf, isReport, wordOf, codeOf, answerOf}
-use Rattle.answer.specs.Laws.{Fits, answer-again}
+use Rattle.answer.specs.Laws.{answer-again}
 use Rattle.damper.specs.declared.Drive.{Drive}
 use Rattle.damper.specs.declared.Outcome.{Outcome}
 use Rattle.damper.specs.Record.{last, withPosition}
@@ -35,6 +35,7 @@ use Rattle.sentences.specs.Words.{firstThatFits}
 use Rattle.sentences.specs.Fields as Fields
 use Rattle.sentences.specs.Fields.{_≔_, _with_, bare}
 use Rattle.sentences.specs.Paper as P
+use Rattle.sentences.specs.Hands as Hands
 use Rattle.sentences.specs.Prints.{same-report}
 use Rattle.sentences.specs.Refusals.{same-refusals}
 use Rattle.sentences.specs.Rules.{same-target, same-due}
@@ -353,7 +354,7 @@ module _ (a : Audit) (s : List ℕ) (y : Answer) (w : wellFormed (a .drive) ≡ 
       by (ap (λ (z : Findings). z .refusal) findings-are ∙ (λ i. not (eqb (said-number (a .seen) y i) (own-number d s w i))))
       (negated (eqb (numberOf y) k) (λ e. n .0 (eqb-true (numberOf y) k e), λ h. eq-eqb (numberOf y) k (n .1 h)))
 
-  pub answer : Fits y → Fits (o .answer) → Says (f .answer) (y ≡ o .answer → ⊥)
+  pub answer : P.Fits y → P.Fits (o .answer) → Says (f .answer) (y ≡ o .answer → ⊥)
   unfolding findingsOf metBy
   answer h k =
       let words = eqb (wordOf y) (wordOf (o .answer)) in
@@ -365,7 +366,8 @@ module _ (a : Audit) (s : List ℕ) (y : Answer) (w : wellFormed (a .drive) ≡ 
       ))
     where
       same : wordOf y ≡ wordOf (o .answer) → codeOf y ≡ codeOf (o .answer) → y ≡ o .answer
-      same u v = sym (answer-again y h) ∙ (λ i. answerOf (u i) (v i)) ∙ answer-again (o .answer) k
+      same u v =
+          sym (answer-again y (Hands.fits y h)) ∙ (λ i. answerOf (u i) (v i)) ∙ answer-again (o .answer) (Hands.fits (o .answer) k)
 
   -- ── What is kept ──
 

@@ -12,7 +12,7 @@ use Rattle.answer.specs.declared.Answer.{Answer}
 use Rattle.answer.specs.declared.Answer.the-variants.{No, Done, Par, At, Tick, Report}
 use Rattle.damper.specs.declared.Drive.{Drive}
 use Rattle.damper.specs.declared.Outcome.{Outcome}
-use Rattle.damper.specs.Tick.{advance, statusOf}
+use Rattle.damper.specs.Tick.{advance}
 use Rattle.damper.specs.Carry.{Step}
 use Rattle.history.specs.Readings.{judgement, parameters, targetFrom, positionIn, statusIn}
 use Rattle.history.specs.Log.{Entry}
@@ -239,9 +239,7 @@ pub data Counted (d : Drive) (s : List ℕ) (n : ℕ) : ℕ → Type 0 where
 
 -- whether a tick of the drive is due to report: step 4, of the record that steps 1 to 3 leave
 abbrev pub TickDue : Drive → Type 0
-TickDue d =
-    let n = advance d .drive in
-    P.Due (n .params) (n .since) (n .position) (statusOf n) (n .last .reported) (n .last .position) (n .last .status)
+TickDue d = P.DueIn (advance d .drive)
 
 abbrev pub nothingFound : Findings
 nothingFound =

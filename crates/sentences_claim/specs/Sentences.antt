@@ -1,6 +1,13 @@
--- The page to read first. Each sentence of demand 3, of document 01's paragraph on it, and each finding of the audit is here a theorem for
--- every trace, record or audit: on one side the product's definition, on the other the sentence as `Paper` says it a second time. What the
--- product says by splits of the trace stands there by places, by the clock or by a number, and what it says by recursion by splits.
+-- Demand 3. Each sentence of it, of document 01's paragraph on it, and each finding of the audit is here a theorem for every trace, record
+-- or audit: on one side the product's definition, on the other the sentence as `Paper` says it a second time. What the product says by
+-- splits of the trace stands there by places, by the clock or by a number, and what it says by recursion by splits.
+--
+-- How to read it: crates/sentences/specs/Sentences.antt.
+--   `S.` demand 3 and the audit in their second form (Paper.antt); `P.` document 01 in its second form (crates/sentences/specs/Paper.antt);
+--   `C.`, `R.` and `Log.` the product's definitions, of the claim, of what is read off a list of events and of the log; `F.` the fields
+--   of a drive record
+-- Histories and traces have the latest first: `m ∷ t` is the record m after the trace t, and `new ++ old` the trace `old` and what came
+-- after it.
 use mathlib.Core.Path.{_≡_}
 use mathlib.Core.Logic.{_↔_}
 use mathlib.Core.Bool.{true}
@@ -10,7 +17,6 @@ use lib.ListN.{length, drop}
 use Rattle.event.specs.declared.Event.{Event}
 use Rattle.rules.specs.Report.{silent, sent}
 use Rattle.answer.specs.declared.Answer.{Answer}
-use Rattle.answer.specs.Laws.{Fits}
 use Rattle.damper.specs.declared.Drive.{Drive}
 use Rattle.damper.specs.declared.Outcome.{Outcome}
 use Rattle.damper.specs.WellFormed.{wellFormed}
@@ -296,8 +302,8 @@ module _ (a : Audit) (s : List ℕ) (y : Answer) (w : P.WellFormed (a .drive)) w
   pub refusal-found : (f .refusal ≡ true) ↔ (S.Number y (firstThatFits (P.turnedDown (a .drive) s)) → ⊥)
   refusal-found = Audits.refusal a s y formed-flag
 
-  -- another answer, of answers whose values fit their bytes
-  pub answer-found : Fits y → Fits (o .answer) → (f .answer ≡ true) ↔ (y ≡ o .answer → ⊥)
+  -- another answer, of answers whose values fit their widths: two bytes of a parameter, one of any other
+  pub answer-found : P.Fits y → P.Fits (o .answer) → (f .answer ≡ true) ↔ (y ≡ o .answer → ⊥)
   answer-found h k = Audits.answer a s y formed-flag h k
 
   -- ── The audit: what it keeps ──

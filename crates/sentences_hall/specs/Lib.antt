@@ -6,4 +6,5 @@ pub mod Senders
 pub mod Turns
 pub mod Shared
 pub mod Page
+pub mod Promised
 pub mod Sentences

@@ -1,4 +1,7 @@
--- Document 02, W-201, W-203, W-204 and W-205, sentence by sentence, in a second form. `P1` is document 01 in its second form.
+-- Document 02, W-201, W-203, W-204 and W-205, sentence by sentence, in a second form. `P1` is document 01 in its second form, `S` demand 3
+-- (crates/sentences_claim). From the product come its calls and a few words that have theorems of their own: on this page `hallAfter`
+-- (calls-after) and `hallTicked` (sent, held, not-due, sent-answer, silent-answer, unformed-answer), on that of the crate sentences
+-- `freshDrive`, `stepOf`, `advance`, `statusOf`, `toPercent` and `text`.
 use mathlib.Core.Path.{_≡_}
 use mathlib.Core.Bool.{Bool, true, not, _&&_, _||_}
 use mathlib.Core.List.{List, [], _∷_, _++_}
@@ -6,12 +9,17 @@ use Prim.Native.Nat.{ℕ, zero, suc, _+_, _*_, _/_, _%_, _^_, _≤_, _<_}
 use lib.ListN.{length, getD}
 use Rattle.motion.specs.Motion.{toPercent}
 use Rattle.damper.specs.declared.Drive.{Drive}
+use Rattle.damper.specs.declared.Outcome.{Outcome}
 use Rattle.damper.specs.Record.{freshDrive}
 use Rattle.damper.specs.Tick.{advance, statusOf}
+use Rattle.damper.specs.Step.{stepOf}
+use Rattle.history.specs.Claim.{Moment, Trace}
 use Rattle.line.specs.Text.{text}
-use Rattle.hall.specs.Hall.{Call, give, tick}
+use Rattle.hall.specs.Hall.{Call, give, tick, hallAfter}
+use Rattle.hall.specs.Quota.{hallTicked, hallStep}
 use Rattle.sentences.specs.Words.{_is_, _exceeds_, between, someOf, Condition, choose, firstThatFits}
 use Rattle.sentences.specs.Paper as P1
+use Rattle.sentences_claim.specs.Paper as S
 
 -- ── W-201: a hall of drives; W-205: twice on one list ──
 
@@ -40,24 +48,26 @@ howOften x (y ∷ list) = choose (y is x) 1 0 + howOften x list
 
 -- "a tick that the reader accepts": none of 2 to 8 fits, and the kind is 1
 abbrev pub acceptedTick : List ℕ → Bool
-acceptedTick s =
-    firstThatFits (P1.ofTheBytes s ++ P1.ofTheData (getD s 2 0) (getD s 3 0) (getD s 4 0) (getD s 5 0)) is 0 && getD s 2 0 is 1
+acceptedTick s = firstThatFits (P1.ofTheReader s) is 0 && getD s 2 0 is 1
 
 -- "14 when the row holds no drive or over 64."
 abbrev pub ofTheRow : ℕ → Condition
 ofTheRow n = (14, n is 0 || n exceeds 64)
 
--- the refusals of a call on `n` drives, "in this order", with `room` places in the row that is lent for its answers
-abbrev pub ofTheCall : ℕ → Call → List Condition
-ofTheCall n (give list s room) =
+-- the refusals of an event call on `n` drives by W-201, with `room` places in the row that is lent for its answers
+abbrev pub upTo16 : ℕ → List ℕ → List ℕ → ℕ → List Condition
+upTo16 n list s room =
     ofTheRow n
     -- "15 when a listed drive number is not below the row's length."
     ∷ (15, someOf list (λ i. not (n exceeds i)))
     -- "16 when the bytes are a tick that the reader accepts, the list has over 64 entries, or the answer row is shorter than the list"
     ∷ (16, acceptedTick s || (length list exceeds 64 || length list exceeds room))
-    -- "19 when a list names a drive twice, checked after 16"
-    ∷ (19, someOf list (λ x. howOften x list exceeds 1))
     ∷ []
+
+-- the refusals of a call, "in this order"
+abbrev pub ofTheCall : ℕ → Call → List Condition
+-- "19 when a list names a drive twice, checked after 16"
+ofTheCall n (give list s room) = upTo16 n list s room ++ ((19, someOf list (λ x. howOften x list exceeds 1)) ∷ [])
 ofTheCall n (tick quota sends room) =
     ofTheRow n
     -- "(for the hall tick, than the row of drives)"
@@ -72,14 +82,10 @@ answerTo n c = firstThatFits (ofTheCall n c)
 
 -- ── W-204: quiet line ──
 
--- step 4 of a tick would report, by the record that steps 1 to 3 leave
-abbrev pub WouldReport : Drive → Type 0
-WouldReport n = P1.Due (n .params) (n .since) (n .position) (statusOf n) (n .last .reported) (n .last .position) (n .last .status)
-
--- "A well-formed drive is due when the fourth step of a tick would report."
+-- "A well-formed drive is due when the fourth step of a tick would report.", by the record that steps 1 to 3 leave
 pub record Due (d : Drive) : Type 0 where
   pub formed : P1.WellFormed d
-  pub reports : WouldReport (advance d .drive)
+  pub reports : P1.DueIn (advance d .drive)
 
 -- of the due drives with a number below `n`, "the one that waited longest .., lower number first among equals"
 pub record Longest (row : List Drive) (n i : ℕ) : Type 0 where
@@ -99,6 +105,72 @@ pub record MaySend (quota : ℕ) (row : List Drive) (sends : ℕ → Bool) : Typ
   pub due : (i : ℕ) → i < length row → sends i ≡ true → Due (drive row i)
   pub few : howMany (length row) sends ≤ quota
   pub first : (i : ℕ) → Longest row (length row) i → sends i ≡ true
+
+-- ── W-201: "its own share of the hall's calls"; W-204: what is promised of it ──
+
+-- what is so at each hall tick of a list of calls on `row` that is carried out, of its quota, whom it sends and the row before it:
+-- `before` are the calls before it
+abbrev pub AtEachTick : (ℕ → (ℕ → Bool) → List Drive → Type 0) → List Drive → List Call → Type 0
+AtEachTick So row cs = (before : List Call) (quota : ℕ) (sends : ℕ → Bool) (room : ℕ) (after : List Call)
+    → cs ≡ before ++ (tick quota sends room ∷ after) → answerTo (length row) (tick quota sends room) ≡ 0
+    → So quota sends (hallAfter hallStep row before)
+
+-- each of them sends whom it may
+abbrev pub EachMaySend : List Drive → List Call → Type 0
+EachMaySend row cs = AtEachTick (λ quota sends now. MaySend quota now sends) row cs
+
+-- "A drive due at each of" them
+abbrev pub DueAtEach : List Drive → ℕ → List Call → Type 0
+DueAtEach row i cs = AtEachTick (λ quota sends now. Due (drive now i)) row cs
+
+-- how many hall ticks of a list of calls on `n` drives are carried out
+abbrev pub hallTicks : ℕ → List Call → ℕ
+hallTicks n [] = 0
+hallTicks n (give list s room ∷ cs) = hallTicks n cs
+hallTicks n (tick quota sends room ∷ cs) = choose (answerTo n (tick quota sends room) is 0) 1 0 + hallTicks n cs
+
+-- the drive at `i` is "restarted": one of the calls gives it a restart, and it accepts it
+pub record Restarted (row : List Drive) (i : ℕ) (cs : List Call) : Type 0 where
+  pub before : List Call
+  pub list : List ℕ
+  pub given : List ℕ
+  pub room : ℕ
+  pub after : List Call
+  pub parts : cs ≡ before ++ (give list given room ∷ after)
+  pub carried : answerTo (length row) (give list given room) ≡ 0
+  pub named : Listed i list
+  pub restart : S.RestartOf (drive (hallAfter hallStep row before) i) given
+
+-- it "is sent at one of them"
+pub record SentAtOne (n i : ℕ) (cs : List Call) : Type 0 where
+  pub before : List Call
+  pub quota : ℕ
+  pub sends : ℕ → Bool
+  pub room : ℕ
+  pub after : List Call
+  pub parts : cs ≡ before ++ (tick quota sends room ∷ after)
+  pub carried : answerTo n (tick quota sends room) ≡ 0
+  pub sent : sends i ≡ true
+
+-- a moment of a trace: what a drive was given, and what it made of it
+abbrev pub moment : List ℕ → Outcome → Moment
+moment s o = S.moment s (o .answer) (o .drive .position)
+
+-- the trace of the drive at `i` over "its own share of the hall's calls", call by call, each on the row that those before it left: the
+-- event where it is listed, each hall tick as a tick; "a hall call refused itself belongs to no share"
+pub data ShareTrace (row : List Drive) (i : ℕ) : List Call → Trace → Type 0 where
+  nothing : ShareTrace row i [] []
+  refused : {cs : List Call} {t : Trace} → ShareTrace row i cs t → (c : Call) (k : ℕ) → answerTo (length row) c ≡ suc k
+      → ShareTrace row i (cs ++ (c ∷ [])) t
+  not-named : {cs : List Call} {t : Trace} → ShareTrace row i cs t → (list s : List ℕ) (room : ℕ)
+      → answerTo (length row) (give list s room) ≡ 0 → (Listed i list → ⊥) → ShareTrace row i (cs ++ (give list s room ∷ [])) t
+  named : {cs : List Call} {t : Trace} → ShareTrace row i cs t → (list s : List ℕ) (room : ℕ)
+      → answerTo (length row) (give list s room) ≡ 0 → Listed i list
+      → ShareTrace row i (cs ++ (give list s room ∷ [])) (moment s (stepOf (drive (hallAfter hallStep row cs) i) s) ∷ t)
+  ticked : {cs : List Call} {t : Trace} → ShareTrace row i cs t → (quota : ℕ) (sends : ℕ → Bool) (room : ℕ)
+      → answerTo (length row) (tick quota sends room) ≡ 0
+      → ShareTrace row i (cs ++ (tick quota sends room ∷ []))
+      (moment (0x5a ∷ 0xc3 ∷ 1 ∷ 0 ∷ 0 ∷ 0 ∷ []) (hallTicked (sends i) (drive (hallAfter hallStep row cs) i)) ∷ t)
 
 -- ── W-203: shift page ──
 

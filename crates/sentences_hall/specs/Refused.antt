@@ -140,7 +140,7 @@ same-number n [] = refl
 same-number n (i ∷ list) = rw (at-most n i, same-number n list)
 
 abbrev reader : List ℕ → ℕ
-reader s = firstThatFits (P1.ofTheBytes s ++ P1.ofTheData (getD s 2 0) (getD s 3 0) (getD s 4 0) (getD s 5 0))
+reader s = firstThatFits (P1.ofTheReader s)
 
 kind-one : (b : Bool) (k : ℕ) → eqb (choose b k 0) 1 ≡ (b && eqb k 1)
 kind-one true k = refl

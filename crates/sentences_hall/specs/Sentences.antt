@@ -1,27 +1,39 @@
--- The page to read first. Each sentence of document 02's W-201, W-203, W-204 and W-205, as they stand together, that a definition of the
--- product states is here a theorem for every input: on one side the definition that the contracts name, on the other the sentence as
--- `Paper` says it a second time. `P1` is document 01 in its second form: a drive's step, its advance and its status have their page there.
+-- Halls. Each sentence of document 02's W-201, W-203, W-204 and W-205, as they stand together, that a definition of the product states is
+-- here a theorem for every input: on one side the definition that the contracts name, on the other the sentence as `Paper` says it a
+-- second time. A drive's step, its advance and its status have their page in the crate sentences.
+--
+-- How to read it: crates/sentences/specs/Sentences.antt.
+--   `P.` document 02 in its second form (Paper.antt); `P1.` document 01 in its second form (crates/sentences/specs/Paper.antt); `S.`
+--   demand 3 in its second form (crates/sentences_claim/specs/Paper.antt); `F.` the fields of a drive record; `Quota.` the product's
+--   definitions
+-- A list of calls has the first call first; a trace has the latest record first, and `m ∷ t` is the record m after the trace t.
 use mathlib.Core.Path.{_≡_, refl}
 use mathlib.Core.Logic.{_↔_}
 use mathlib.Core.Bool.{Bool, true, false, not, _&&_, _||_}
-use mathlib.Core.List.{List, [], _∷_}
+use mathlib.Core.List.{List, [], _∷_, _++_, map}
 use Prim.Native.Nat.{ℕ, suc, _+_, _-_, _*_, _≤_, _<_}
 use lib.ListN.{length, getD, take, drop}
+use Rattle.answer.specs.Answer.{numberOf}
+use Rattle.answer.specs.declared.Answer.the-variants.{No, Tick, Report}
 use Rattle.damper.specs.declared.Drive.{Drive}
 use Rattle.damper.specs.Record.{freshDrive}
 use Rattle.damper.specs.Tick.{advance, statusOf}
 use Rattle.damper.specs.Step.{refusalOf, stepOf}
+use Rattle.damper.specs.Carry.{answersIn}
+use Rattle.history.specs.Claim.{Moment, Trace}
 use Rattle.choice.specs.Sent.{sentBy}
-use Rattle.hall.specs.Hall.{badRow, badNumber, isTick, namedIn, namesTwice}
-use Rattle.hall.specs.Hall.{Call, give, tick, callRefusal, bytes, hallTick, bytesIn, turnsOf, rowAfter, answersAfter, hallAfter, share}
+use Rattle.hall.specs.Hall.{badRow, badNumber, isTick, namedIn, namesTwice, Call, give, tick, callRefusal, bytes, hallTick, bytesIn}
+use Rattle.hall.specs.Hall.{turn, turnsOf, turned, rowAfter, answersAfter, hallAfter, share}
 use Rattle.hall.specs.Quota as Quota
-use Rattle.hall.specs.Quota.{dueNow, hallStep, allowed, allowedCall, allowedCalls}
+use Rattle.hall.specs.Quota.{dueNow, hallTicked, hallStep, allowed, allowedCall, allowedCalls}
+use Rattle.shares.specs.Theorem.{shareTrace}
 use Rattle.shift.specs.Shift.{driveLine, pageRefusal, pageAfter}
 use Rattle.shift.specs.Laws.{line-length, page-length}
 use Rattle.sentences.specs.Words.{_is_, _exceeds_, someOf, choose, firstThatFits}
 use Rattle.sentences.specs.Fields as F
 use Rattle.sentences.specs.Fields.{_≔_, _with_}
 use Rattle.sentences.specs.Paper as P1
+use Rattle.sentences_claim.specs.Paper as S
 use Rattle.sentences_hall.specs.Paper as P
 use Rattle.sentences_hall.specs.Contract.{Result}
 use Rattle.sentences_hall.specs.Refused as Refused
@@ -29,6 +41,7 @@ use Rattle.sentences_hall.specs.Senders as Senders
 use Rattle.sentences_hall.specs.Turns as Turns
 use Rattle.sentences_hall.specs.Shared as Shared
 use Rattle.sentences_hall.specs.Page as Page
+use Rattle.sentences_hall.specs.Promised as Promised
 
 -- ── When a call is refused itself ──
 
@@ -61,6 +74,23 @@ names i list = Turns.same-named i list
 pub refused : (row : List Drive) (c : Call) (answers : List ℕ) (k : ℕ) → P.answerTo (length row) c ≡ suc k
     → (rowAfter hallStep row (turnsOf (length row) c) ≡ row) × (answersAfter hallStep row c answers ≡ answers)
 refused row c answers k e = (Turns.refused-row row c k e, Turns.refused-answers row c k e answers)
+
+-- W-205: "its answers for lists without repeats are unaffected": the number is W-201's, 14 to 16; where it is 0 the event is given to the
+-- drives of the list, "in list order", and else "nothing is touched"
+pub unaffected : (row : List Drive) (list s answers : List ℕ) → (P.NamedTwice list → ⊥)
+    → (let c = give list s (length answers) in
+    let number = firstThatFits (P.upTo16 (length row) list s (length answers)) in
+    let after = rowAfter hallStep row (turnsOf (length row) c) in
+    let filled = answersAfter hallStep row c answers in
+    let inOrder = map (turn (bytes s)) list in
+    (callRefusal (length row) c ≡ number)
+    × (number ≡ 0 → (after ≡ rowAfter hallStep row inOrder) × (filled ≡ answersIn numberOf (turned hallStep row inOrder) answers))
+    × ((k : ℕ) → number ≡ suc k → (after ≡ row) × (filled ≡ answers)))
+unaffected row list s answers h = (
+  Promised.number-to-16 row list s answers h,
+  Promised.given-in-order row list s answers h,
+  Promised.nothing-touched row list s answers h,
+)
 
 -- ── "One call gives the bytes of an event other than a tick to a list of drives, in list order" ──
 module _ (row : List Drive) (list s answers : List ℕ) where
@@ -147,6 +177,18 @@ module _ (row : List Drive) (quota : ℕ) (sends : ℕ → Bool) (numbers : List
     pub sent-told : P.MaySend quota row sends → sentBy filled i ≡ sends i
     sent-told m = Turns.told-sent row quota sends numbers ok i h (m .due i h)
 
+-- what the drive itself answers to a hall tick: the tick's form, with a status where it is sent
+pub sent-answer : (d : Drive) → P1.WellFormed d
+    → hallTicked true d .answer ≡ Report (advance d .drive .position) (advance d .rank) (advance d .motor) (statusOf (advance d .drive))
+sent-answer d f = Promised.sent-answer d f
+
+pub silent-answer : (d : Drive) → P1.WellFormed d
+    → hallTicked false d .answer ≡ Tick (advance d .drive .position) (advance d .rank) (advance d .motor)
+silent-answer d f = Promised.silent-answer d f
+
+pub unformed-answer : (d : Drive) (sent : Bool) → (P1.WellFormed d → ⊥) → hallTicked sent d .answer ≡ No 1
+unformed-answer d sent f = Promised.unformed-answer d sent f
+
 -- a report's number
 pub report-number : (numbers : List ℕ) (i : ℕ) → (sentBy numbers i ≡ true) ↔ (65536 ≤ getD numbers i 0)
 report-number numbers i = Turns.report-number numbers i
@@ -174,9 +216,9 @@ pub tick-may-send : (row : List Drive) (quota : ℕ) (sends : ℕ → Bool) (roo
     → (allowedCall row (tick quota sends room) ≡ true) ↔ (P.answerTo (length row) (tick quota sends room) ≡ 0 → P.MaySend quota row sends)
 tick-may-send row quota sends room = Senders.same-allowed-call quota row sends room
 
--- an event call sends nobody
-pub event-sends-none : (row : List Drive) (list s : List ℕ) (room : ℕ) → allowedCall row (give list s room) ≡ true
-event-sends-none row list s room = refl
+-- an event call is always allowed: who is sent is a question of hall ticks alone
+pub event-allowed : (row : List Drive) (list s : List ℕ) (room : ℕ) → allowedCall row (give list s room) ≡ true
+event-allowed row list s room = refl
 
 -- and of a list of calls, each on the row that the one before left
 pub none-may-send : (row : List Drive) → allowedCalls row [] ≡ true
@@ -187,6 +229,10 @@ pub calls-may-send : (row : List Drive) (c : Call) (cs : List Call)
     ↔ ((allowedCall row c ≡ true) × (allowedCalls (rowAfter hallStep row (turnsOf (length row) c)) cs ≡ true))
 calls-may-send row c cs = Senders.one-more-call row c cs
 
+-- the same at once: each hall tick that is carried out sends whom it may, of the row that the calls before it left
+pub each-may-send : (row : List Drive) (cs : List Call) → (allowedCalls row cs ≡ true) ↔ P.EachMaySend row cs
+each-may-send row cs = Promised.same-may-send row cs
+
 -- "If any is due", there is one that waited longest, and one only
 pub some-longest : (row : List Drive) (k : ℕ) → k < length row → P.Due (P.drive row k) → (i : ℕ) × P.Longest row (length row) i
 some-longest row k h f = Senders.some-longest row k h f
@@ -194,7 +240,7 @@ some-longest row k h f = Senders.some-longest row k h f
 pub one-longest : (row : List Drive) (i j : ℕ) → P.Longest row (length row) i → P.Longest row (length row) j → i ≡ j
 one-longest row i j r t = Senders.one-longest row (length row) i j r t
 
--- some set may be sent, of every row and quota
+-- some set may be sent, of every row and a quota of at least 1
 pub some-set : (quota : ℕ) (row : List Drive) → 1 ≤ quota → (sends : ℕ → Bool) × (allowed quota row sends ≡ true)
 some-set quota row h = Senders.some-set quota row h
 
@@ -250,6 +296,33 @@ bytes-of-event s = refl
 
 pub bytes-of-tick : (sent : Bool) → bytesIn (hallTick sent) ≡ 0x5a ∷ 0xc3 ∷ 1 ∷ 0 ∷ 0 ∷ 0 ∷ []
 bytes-of-tick sent = refl
+
+-- ── What is promised of it ──
+
+-- the trace of the drive at `i`: its share as event records, and what it made of each
+pub share-trace : (row : List Drive) (i : ℕ) → i < length row → (cs : List Call) (t : Trace)
+    → (shareTrace row i cs ≡ t) ↔ P.ShareTrace row i cs t
+share-trace row i h cs t = Promised.same-trace row i h cs t
+
+-- "What was promised of one drive's list of events now holds, for each drive that was fresh at first, of its own share of the hall's
+-- calls": every sentence of demand 3 at each place of the trace, and with it W-204's "Spacing stays"; of waiting, what W-204 leaves of it
+pub promised : (row : List Drive) (cs : List Call) (i : ℕ) → i < length row → P.drive row i ≡ freshDrive → P.EachMaySend row cs
+    → (t : Trace) → P.ShareTrace row i cs t → S.Everywhere S.HallHolds t
+promised row cs i h fresh a t g = Promised.promised row cs i h fresh a t g
+
+-- W-204: "A drive due at each of as many hall ticks in a row as the row has drives, and not restarted between them, is sent at one of
+-- them": of every row and list of calls on it, whatever the waits are, and refused calls and events between the ticks
+pub sent-in-time : (row : List Drive) (cs : List Call) (i : ℕ) → i < length row → P.EachMaySend row cs
+    → length row ≤ P.hallTicks (length row) cs → P.DueAtEach row i cs → (P.Restarted row i cs → ⊥) → P.SentAtOne (length row) i cs
+sent-in-time row cs i h a l f r = Promised.sent-in-time row cs i h a l f r
+
+-- "a last tick that breaks that limb always finds its drive due": the last call is a hall tick, `m` its moment and `t` the trace before it
+pub finds-due : (row : List Drive) (cs : List Call) (i quota : ℕ) (sends : ℕ → Bool) (room : ℕ) → i < length row
+    → P.drive row i ≡ freshDrive → P.EachMaySend row (cs ++ (tick quota sends room ∷ []))
+    → P.answerTo (length row) (tick quota sends room) ≡ 0
+    → (m : Moment) (t : Trace) → P.ShareTrace row i cs t → P.ShareTrace row i (cs ++ (tick quota sends room ∷ [])) (m ∷ t)
+    → (S.Waiting m t → ⊥) → P.Due (P.drive (hallAfter hallStep row cs) i)
+finds-due row cs i quota sends room h fresh a ok m t g k b = Promised.finds-due row cs i quota sends room h fresh a ok m t g k b
 
 -- ── W-203: the shift page ──
 

@@ -27,8 +27,7 @@ use Rattle.sentences_list.specs.Runs.{run-stands, run-is, has-run}
 abbrev numberOf : List ℕ → List ℕ → ℕ → ℕ → ℕ → ℕ
 numberOf s q run fault forcing =
     firstThatFits
-    (P.ofTheBytes s
-    ++ P.ofTheData (getD s 2 0) (getD s 3 0) (getD s 4 0) (getD s 5 0)
+    (P.ofTheReader s
     ++ P.ofTheDrive q run fault forcing (getD s 2 0) (getD s 3 0) (256 * getD s 4 0 + getD s 5 0))
 
 same-number : (s : List ℕ) {q q′ : List ℕ} {r r′ f f′ g g′ : ℕ} → q ≡ q′ → r ≡ r′ → f ≡ f′ → g ≡ g′

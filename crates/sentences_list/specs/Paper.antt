@@ -1,5 +1,6 @@
 -- Document 01, 'Who commands', "Read off the list of events (accepted ones only, after the last restart): ..", sentence by sentence in a
--- second form, in which no definition stands that is compared. A history is the accepted events, the latest first: in
+-- second form, in which no definition stands that is compared. Of the product's words, `toPosition` and `runTicks` do stand here, and are
+-- fixed on the page of the crate sentences (percent-to-position, k-ticks). A history is the accepted events, the latest first: in
 -- `after ++ (e ∷ before)` the events of `after` came after `e`.
 use mathlib.Core.Path.{_≡_}
 use mathlib.Core.Logic.{_↔_}
@@ -208,8 +209,7 @@ pub record Judged (h : List Event) (s : List ℕ) (n : ℕ) : Type 0 where
   pub run-read : Run 0 h run
   pub parameters : Parameters h q
   pub number : firstThatFits
-      (P.ofTheBytes s
-      ++ P.ofTheData (getD s 2 0) (getD s 3 0) (getD s 4 0) (getD s 5 0)
+      (P.ofTheReader s
       ++ P.ofTheDrive q run fault forcing (getD s 2 0) (getD s 3 0) (256 * getD s 4 0 + getD s 5 0)) ≡ n
 
 -- "accepted ones only": records, the latest first, and the history that they leave, each judged by what those before it give

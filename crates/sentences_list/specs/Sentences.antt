@@ -1,6 +1,11 @@
--- The page to read: document 01, 'Who commands', "Read off the list of events ..", each sentence a theorem for every list. On one side the
--- product's definition, on the other the sentence as `Paper` says it a second time. A `↔` fixes the definition: what it gives fits the
+-- The list of events: document 01, 'Who commands', "Read off the list of events ..", each sentence a theorem for every list. On one side
+-- the product's definition, on the other the sentence as `Paper` says it a second time. A `↔` fixes the definition: what it gives fits the
 -- sentence, and nothing else does. Where there is an equation instead, `reading` and `has-log` say that something fits.
+--
+-- How to read it: crates/sentences/specs/Sentences.antt.
+--   `L.` these sentences in their second form (Paper.antt); `P.` document 01 in its second form (crates/sentences/specs/Paper.antt); `R.`
+--   and `C.` the product's definitions, of what is read off a list of events and of the claim
+-- Histories and traces have the latest first: `e ∷ h` is the event e after the history h, `m ∷ t` the record m after the trace t.
 use mathlib.Core.Path.{_≡_, subst}
 use mathlib.Core.Logic.{_↔_}
 use mathlib.Core.Bool.{Bool}
