@@ -12,7 +12,7 @@ use Rattle.damper.specs.declared.Outcome.{Outcome}
 use Rattle.damper.specs.Record.{drive, last, noRun, freshDrive, withCounts, withWait}
 use Rattle.hall.specs.Closed.{computation}
 use Rattle.hall.specs.Hall.{tick, hallTick, turn, turnsOf, tickNumber}
-use Rattle.hall.specs.Quota.{hallTicked, longest, allowed}
+use Rattle.hall.specs.Quota.{hallTicked, allowed}
 
 -- a drive with MinRepTime 1, due at the next tick for want of a report, that waited `w` hall ticks; one that is not due; one that is not
 -- well formed

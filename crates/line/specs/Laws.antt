@@ -14,23 +14,6 @@ use Rattle.numbers.specs.Laws.{cases}
 use Rattle.answer.specs.declared.Answer.the-variants.{No, Done, Par, At, Tick, Report}
 use Rattle.line.specs.Line as L
 
--- the printed session of document 01, its end by document 02's W-202: `1 ok`, `2 tick 5 1 1 -`, `3 no 6`, `4 at 5 2 0`
-line-one : L.lineOf 1 Done ≡ 49 ∷ 32 ∷ 111 ∷ 107 ∷ 10 ∷ []
-unfolding L.textOf L.decimal L.digitsWithin
-line-one = refl
-
-line-two : L.lineOf 2 (Tick 5 1 1) ≡ 50 ∷ 32 ∷ 116 ∷ 105 ∷ 99 ∷ 107 ∷ 32 ∷ 53 ∷ 32 ∷ 49 ∷ 32 ∷ 49 ∷ 32 ∷ 45 ∷ 10 ∷ []
-unfolding L.textOf L.decimal L.digitsWithin
-line-two = refl
-
-line-three : L.lineOf 3 (No 6) ≡ 51 ∷ 32 ∷ 110 ∷ 111 ∷ 32 ∷ 54 ∷ 10 ∷ []
-unfolding L.textOf L.decimal L.digitsWithin
-line-three = refl
-
-line-four : L.lineOf 4 (At 5 2 0) ≡ 52 ∷ 32 ∷ 97 ∷ 116 ∷ 32 ∷ 53 ∷ 32 ∷ 50 ∷ 32 ∷ 48 ∷ 10 ∷ []
-unfolding L.textOf L.decimal L.digitsWithin
-line-four = refl
-
 spaced-append : (vs ws : List ℕ) → L.spacedValues (vs ++ ws) ≡ L.spacedValues vs ++ L.spacedValues ws
 spaced-append [] ws = refl
 spaced-append (v ∷ vs) ws = rw (spaced-append vs ws, append-assoc (L.decimal v))
