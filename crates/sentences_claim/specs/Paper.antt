@@ -1,4 +1,4 @@
--- Demand 3, document 01's paragraph on it, and what an audit finds, sentence by sentence, in a second form. A trace is a list of moments,
+-- Demand 3, document 01's paragraph on it, what an audit finds, and W-207, sentence by sentence, in a second form. A trace is a list of moments,
 -- the latest first; a sentence speaks of the record `m`, which came after the trace `t`. `accepted` are the events that `Events` says; what
 -- is read off a list of accepted events keeps its name of the crate history: judgement, parameters, target, position and status.
 use mathlib.Core.Path.{_≡_}
@@ -13,6 +13,7 @@ use Rattle.answer.specs.declared.Answer.the-variants.{No, Done, Par, At, Tick, 
 use Rattle.damper.specs.declared.Drive.{Drive}
 use Rattle.damper.specs.declared.Outcome.{Outcome}
 use Rattle.damper.specs.Tick.{advance}
+use Rattle.damper.specs.Step.{stepOf}
 use Rattle.damper.specs.Carry.{Step}
 use Rattle.history.specs.Readings.{judgement, parameters, targetFrom, positionIn, statusIn}
 use Rattle.history.specs.Log.{Entry}
@@ -294,3 +295,25 @@ pub record FindsAll (l : List Heard) (fs : List Findings) : Type 0 where
       → l ≡ front ++ (x ∷ rest) → fs ≡ before ++ (f ∷ behind) → length before ≡ length front
       → (a : Audit) (t : Trace) (p : ℕ) → Recorded freshAudit front a t → Shows (positionAfter t) (x .answer) p
       → Finds (moment (x .bytes) (x .answer) p) t f
+
+-- ── Document 02, W-207, 'It gets there' ──
+
+-- "one commander rules with one target": at a tick that finds the drive `d`, the commander of rank `r` with the target `t`
+pub record Rules (r t : ℕ) (d : Drive) : Type 0 where
+  pub commander : P.ruling d ≡ r
+  pub target : P.Target (d .commands) (d .run .kind) (d .position) (d .params) r t
+
+-- event records given to a drive one after the other: the drives that the accepted ticks among them find, and the drive that they leave
+pub data TicksFind : Drive → List (List ℕ) → List Drive → Drive → Type 0 where
+  none : {d : Drive} → TicksFind d [] [] d
+  tick : {d e : Drive} {s : List ℕ} {l : List (List ℕ)} {found : List Drive} → TickOf d s → TicksFind (stepOf d s .drive) l found e
+      → TicksFind d (s ∷ l) (d ∷ found) e
+  other : {d e : Drive} {s : List ℕ} {l : List (List ℕ)} {found : List Drive} → (TickOf d s → ⊥) → TicksFind (stepOf d s .drive) l found e
+      → TicksFind d (s ∷ l) found e
+
+-- "Rate unwritten": none of them is an accepted write of it
+pub data RateUnwritten : Drive → List (List ℕ) → Type 0 where
+  none : {d : Drive} → RateUnwritten d []
+  more : {d : Drive} {s : List ℕ} {l : List (List ℕ)}
+      → ((firstThatFits (P.turnedDown d s) ≡ 0) × (getD s 2 0 ≡ 8) × (getD s 3 0 ≡ 203) → ⊥)
+      → RateUnwritten (stepOf d s .drive) l → RateUnwritten d (s ∷ l)

@@ -1,5 +1,5 @@
--- Demand 3. Each sentence of it, of document 01's paragraph on it, and each finding of the audit is here a theorem for every trace, record
--- or audit: on one side the product's definition, on the other the sentence as `Paper` says it a second time. What the product says by
+-- Demand 3. Each sentence of it, of document 01's paragraph on it, each finding of the audit, and W-207 is here a theorem for every trace,
+-- record or audit: on one side the product's definition, on the other the sentence as `Paper` says it a second time. What the product says by
 -- splits of the trace stands there by places, by the clock or by a number, and what it says by recursion by splits.
 --
 -- How to read it: crates/sentences/specs/Sentences.antt.
@@ -12,8 +12,9 @@ use mathlib.Core.Path.{_≡_}
 use mathlib.Core.Logic.{_↔_}
 use mathlib.Core.Bool.{true}
 use mathlib.Core.List.{List, [], _∷_, _++_, map}
-use Prim.Native.Nat.{ℕ, suc, _+_, _<_, _≤_}
+use Prim.Native.Nat.{ℕ, suc, _+_, _*_, _<_, _≤_}
 use lib.ListN.{length, drop}
+use Rattle.numbers.specs.Every.{Every}
 use Rattle.event.specs.declared.Event.{Event}
 use Rattle.rules.specs.Report.{silent, sent}
 use Rattle.answer.specs.declared.Answer.{Answer}
@@ -43,6 +44,7 @@ use Rattle.sentences_claim.specs.Holds as Holds
 use Rattle.sentences_claim.specs.Traces as Traces
 use Rattle.sentences_claim.specs.Audits as Audits
 use Rattle.sentences_claim.specs.Recordings as Recordings
+use Rattle.sentences_claim.specs.Arrives as Arrives
 
 -- ── What a record of the list is ──
 
@@ -389,3 +391,18 @@ told-from l fs = Recordings.same-tells l fs
 pub finds : (l : List Heard) (a : Audit) (t : C.Trace) → S.Recorded freshAudit l a t → (s : List ℕ) (y : Answer) (p : ℕ)
     → S.Shows (S.positionAfter t) y p → S.Finds (S.moment s y p) t (auditOf a s y .findings)
 finds l a t g s y p h = Recordings.finds g s y p h
+
+-- ── Document 02, W-207, 'It gets there' ──
+
+-- every list of event records, given to any drive, has the drives that its ticks find, and a drive that it leaves
+pub ticks-found : (d : Drive) (l : List (List ℕ)) → (found : List Drive) × (e : Drive) × S.TicksFind d l found e
+ticks-found d l = Arrives.some-found l d
+
+-- "If one commander rules with one target for K ticks in a row, Rate unwritten, the drive stands at that target after the last of them and
+-- stays while that commander and target rule. Show it for every well-formed drive": n ticks are K or more just where 255 ≤ n × Rate
+pub settles : (d : Drive) → P.WellFormed d → d .position < 256 → (r t : ℕ)
+    → (l : List (List ℕ)) (found : List Drive) (e : Drive) → S.TicksFind d l found e → S.RateUnwritten d l
+    → Every (S.Rules r t) found → 255 ≤ length found * P.Rate (d .params)
+    → (e .position ≡ t)
+    × ((l′ : List (List ℕ)) (found′ : List Drive) (e′ : Drive) → S.TicksFind e l′ found′ e′ → Every (S.Rules r t) found′ → e′ .position ≡ t)
+settles d w b r t l found e g u xs n = Arrives.settles d (Forms.same-formed d .1 w) b r t g u xs n
