@@ -511,21 +511,19 @@ typedef struct {
     uint8_t answers[DAMPER_HALL_MOST + 6];
     uint32_t numbers[DAMPER_HALL_MOST + 6];
     uint8_t page[(DAMPER_HALL_MOST + 1) * DAMPER_HALL_LINE];
+    uint32_t shares[DAMPER_HALL_MOST + 1];
 } hall;
 
 static hall now, was;
 
-#define UNSET 0x63 /* in each byte of answers, numbers and the page, and in those of a drive that belong to no field */
+#define UNSET 0x63 /* in each byte of answers, numbers, shares and the page */
 
 /* Every drive becomes this one. */
 static void fill_hall(damper_drive d)
 {
-    uint8_t bytes[sizeof d];
-    memcpy(bytes, &d, sizeof d);
-    bytes[1] = bytes[43] = UNSET;
     memset(&now, UNSET, sizeof now);
     for (size_t i = 0; i <= DAMPER_HALL_MOST; i++)
-        memcpy(&now.row[i], bytes, sizeof d);
+        now.row[i] = d;
 }
 
 static bool untouched(void)
@@ -551,7 +549,7 @@ static bool same(damper_drive x, damper_drive y)
 {
     return x.position == y.position && !memcmp(x.params, y.params, sizeof x.params) &&
            !memcmp(&x.commands, &y.commands, sizeof x.commands) && x.age == y.age && !memcmp(&x.run, &y.run, sizeof x.run) &&
-           x.since == y.since && !memcmp(&x.last, &y.last, sizeof x.last) && x.wait == y.wait;
+           x.since == y.since && !memcmp(&x.last, &y.last, sizeof x.last) && x.wait == y.wait && x.travel == y.travel;
 }
 
 static unsigned give_hall(size_t drives, const uint32_t *list, size_t entries, const uint8_t *bytes, size_t length,
@@ -913,6 +911,92 @@ static void hall_page(damper_drive fresh)
     }
 }
 
+/* The travel: each tick's move, up and down, alone and in a hall, sent or held; nothing else but the cap. */
+static void travels(damper_drive fresh)
+{
+    damper_drive d = ticked(with_setpoint(fresh, 12), 3);
+    CHECK(fresh.travel == 0 && d.position == 12 && d.travel == 12);
+    d = ticked(with_setpoint(d, 0), 4);
+    CHECK(d.position == 0 && d.travel == 24);
+    CHECK(after(d, DAMPER_KIND_RESTART, 0, 0, 0).travel == 24 && with_setpoint(d, 255).travel == 24);
+    CHECK(give(d, DAMPER_KIND_READ_POSITION, 0, 0, 0).drive.travel == 24);
+    const uint8_t damaged[] = {DAMPER_MARK_0, DAMPER_MARK_1, DAMPER_KIND_TICK, 0, 0, 1};
+    CHECK(damper_step(with_setpoint(d, 255), damaged, sizeof damaged).drive.travel == 24);
+    d.travel = UINT32_MAX - 6;
+    CHECK(damper_well_formed(d));
+    d = ticked(with_setpoint(d, 255), 1);
+    CHECK(d.travel == UINT32_MAX - 1);
+    d = ticked(d, 1);
+    CHECK(d.travel == UINT32_MAX && d.position == 10);
+    d = ticked(d, 1);
+    CHECK(d.travel == UINT32_MAX && d.position == 15);
+
+    fill_hall(with_param(with_setpoint(fresh, 255), DAMPER_NUMBER_MIN_REP_TIME, 1));
+    CHECK(tick_hall(2, 1, 2) == 0 && damper_hall_is_report(now.numbers[0]) && now.numbers[1] == DAMPER_HALL_SILENT);
+    CHECK(now.row[0].travel == 5 && now.row[1].travel == 5 && now.row[1].wait == 1);
+}
+
+static unsigned share_out(size_t drives, uint64_t bill, size_t places)
+{
+    memcpy(&was, &now, sizeof now);
+    return damper_hall_bill(now.row, drives, bill, now.shares, places);
+}
+
+/* Whether the first shares are these, and all else is as it was. */
+static bool shares_are(const uint32_t *shares, size_t drives)
+{
+    bool same = !memcmp(now.shares, shares, drives * sizeof shares[0]);
+    memcpy(now.shares, was.shares, drives * sizeof shares[0]);
+    return same && untouched();
+}
+
+/* The bill: rounded-down shares, left-over cents to the largest remainders, ties by number, damaged drives, and the refusals. */
+static void hall_bill(damper_drive fresh)
+{
+    const size_t most = DAMPER_HALL_MOST;
+    const uint64_t dear = DAMPER_HALL_BILL;
+    const unsigned no_hall = DAMPER_HALL_REFUSAL_ROW, no_bill = DAMPER_HALL_REFUSAL_BILL, unmoved = DAMPER_HALL_REFUSAL_UNMOVED;
+    CHECK(no_bill == 20 && unmoved == 21 && dear == 1000000000);
+
+    fill_hall(fresh);
+    CHECK(share_out(0, dear + 1, 1) == no_hall && untouched() && share_out(most + 1, 0, 0) == no_hall && untouched());
+    CHECK(share_out(SIZE_MAX, 0, SIZE_MAX) == no_hall && untouched());
+    CHECK(share_out(3, dear + 1, 3) == no_bill && untouched() && share_out(3, UINT64_C(4294967301), 3) == no_bill && untouched());
+    CHECK(share_out(3, UINT64_MAX, 3) == no_bill && untouched());
+    CHECK(share_out(3, 5, 2) == no_bill && untouched() && share_out(3, 5, 4) == no_bill && untouched());
+    CHECK(share_out(3, 5, 0) == no_bill && untouched());
+    CHECK(share_out(3, 5, 3) == unmoved && untouched() && share_out(3, 0, 3) == unmoved && untouched());
+
+    /* A larger bill may lower a share: the middle one here. */
+    const uint32_t by_27[] = {15, 2, 10}, by_28[] = {16, 1, 11}, nothing[] = {0, 0, 0};
+    now.row[0].travel = 10;
+    now.row[1].travel = 1;
+    now.row[2].travel = 7;
+    CHECK(share_out(3, 27, 3) == 0 && shares_are(by_27, 3));
+    CHECK(share_out(3, 28, 3) == 0 && shares_are(by_28, 3));
+    CHECK(share_out(3, 0, 3) == 0 && shares_are(nothing, 3));
+
+    /* Four drives that moved as far, one of them damaged, share three cents by number; one that has not moved pays nothing. */
+    const uint32_t by_number[] = {0, 1, 1, 1, 0}, all_alike[] = {0, 250000000, 250000000, 250000000, 250000000};
+    fill_hall(fresh);
+    for (size_t i = 1; i < 5; i++)
+        now.row[i].travel = UINT32_MAX;
+    now.row[2].commands.hand = 2;
+    CHECK(share_out(5, 3, 5) == 0 && shares_are(by_number, 5));
+    CHECK(share_out(5, dear, 5) == 0 && shares_are(all_alike, 5));
+
+    /* Each hall, up to the largest: the shares add up. */
+    for (size_t i = 0; i < most; i++)
+        now.row[i].travel = (uint32_t)(UINT32_MAX - 7919 * i * i);
+    for (size_t drives = 1; drives <= most; drives++) {
+        CHECK(share_out(drives, dear - drives, drives) == 0);
+        uint64_t sum = 0;
+        for (size_t i = 0; i < drives; i++)
+            sum += now.shares[i];
+        CHECK(sum == dear - drives && now.shares[drives] == was.shares[drives]);
+    }
+}
+
 /* The tick that would follow is the one that does, and each of its reasons is there without the others. */
 static void outlooks(damper_drive fresh)
 {
@@ -1035,6 +1119,8 @@ static void null_pointers(damper_drive fresh)
     CHECK(damper_hall_tick(&fresh, 1, 1, NULL, 0) == DAMPER_HALL_REFUSAL_CALL && fresh.since == 0);
     CHECK(damper_hall_page(NULL, 0, NULL, 0) == DAMPER_HALL_REFUSAL_ROW);
     CHECK(damper_hall_page(&fresh, 1, NULL, 0) == DAMPER_HALL_REFUSAL_PAGE);
+    CHECK(damper_hall_bill(NULL, 0, 1, NULL, 0) == DAMPER_HALL_REFUSAL_ROW);
+    CHECK(damper_hall_bill(&fresh, 1, 1, NULL, 0) == DAMPER_HALL_REFUSAL_BILL);
 
     damper_audited r = damper_audit_hear(damper_audit_fresh(), NULL, 0, DAMPER_WORD_NO, DAMPER_REFUSAL_LENGTH);
     CHECK(r.refusal == 0 && findings(r.findings) == 0);
@@ -1061,6 +1147,8 @@ int main(void)
     percent_positions(fresh);
     hall_quota(fresh);
     hall_page(fresh);
+    travels(fresh);
+    hall_bill(fresh);
     outlooks(fresh);
     audits(fresh);
     null_pointers(fresh);

@@ -1,6 +1,6 @@
 /*
  * The damper drive of document 01, with the percents of request W-202, the hall of request W-201 with the quota of request
- * W-204 and the refusal of repeats of request W-205, and the shift page of request W-203.
+ * W-204 and the refusal of repeats of request W-205, the shift page of request W-203, and the travel of request W-208.
  */
 #include "plain.h"
 
@@ -222,6 +222,13 @@ static bool report_due(const damper_drive *d, uint8_t now)
            d->since >= d->params[DAMPER_PLACE_REP_PER];
 }
 
+static void move_to(damper_drive *d, uint8_t position)
+{
+    uint8_t way = position > d->position ? position - d->position : d->position - position;
+    d->travel = d->travel > UINT32_MAX - way ? UINT32_MAX : d->travel + way;
+    d->position = position;
+}
+
 /* Steps 1 to 3; gives the rank that ruled. */
 static uint8_t advance(damper_drive *d)
 {
@@ -229,7 +236,7 @@ static uint8_t advance(damper_drive *d)
     if (d->commands.stored)
         count_one(&d->age);
     uint8_t rank = ruling_rank(d);
-    d->position = moved(d->position, target_of(d, rank), d->params[DAMPER_PLACE_RATE]);
+    move_to(d, moved(d->position, target_of(d, rank), d->params[DAMPER_PLACE_RATE]));
     pass_tick_of_run(d);
     return rank;
 }
@@ -337,7 +344,7 @@ static answer write_parameter(damper_drive *d, uint8_t number, uint16_t value)
     return ok;
 }
 
-/* Position and parameters stay. */
+/* Position, parameters and travel stay. */
 static answer restart(damper_drive *d)
 {
     memset(&d->commands, 0, sizeof d->commands);

@@ -44,6 +44,7 @@ static uint8_t (*volatile hall_event)(damper_drive *, size_t, const uint32_t *, 
                                       size_t);
 static uint8_t (*volatile hall_tick)(damper_drive *, size_t, uint32_t, uint32_t *, size_t);
 static uint8_t (*volatile hall_page)(const damper_drive *, size_t, uint8_t *, size_t);
+static uint8_t (*volatile hall_bill)(const damper_drive *, size_t, uint64_t, uint32_t *, size_t);
 
 static damper_drive drive;
 static damper_stepped stepped;
@@ -57,7 +58,7 @@ static uint8_t events[ROOM][DAMPER_EVENT_LENGTH], *event, buffer[DAMPER_EVENT_LE
 static uint32_t codes[ROOM];
 static size_t records;
 static damper_drive row[DAMPER_HALL_MOST];
-static uint32_t list[DAMPER_HALL_MOST], numbers[DAMPER_HALL_MOST];
+static uint32_t list[DAMPER_HALL_MOST], numbers[DAMPER_HALL_MOST], shares[DAMPER_HALL_MOST];
 static uint8_t answers[DAMPER_HALL_MOST], page[DAMPER_HALL_MOST * DAMPER_HALL_LINE], refusal;
 
 static void call_fresh(void) { drive = fresh(); }
@@ -77,6 +78,7 @@ static void call_hall_event(void)
 }
 static void call_hall_tick(void) { refusal = hall_tick(row, DAMPER_HALL_MOST, 8, numbers, DAMPER_HALL_MOST); }
 static void call_hall_page(void) { refusal = hall_page(row, DAMPER_HALL_MOST, page, sizeof page); }
+static void call_hall_bill(void) { refusal = hall_bill(row, DAMPER_HALL_MOST, DAMPER_HALL_BILL, shares, DAMPER_HALL_MOST); }
 
 #define POINT(pointer, function) pointer = archive ? function : (__typeof__(&function))nothing
 
@@ -94,6 +96,7 @@ static void point(bool archive)
     POINT(hall_event, damper_hall_event);
     POINT(hall_tick, damper_hall_tick);
     POINT(hall_page, damper_hall_page);
+    POINT(hall_bill, damper_hall_bill);
 }
 
 /* A hall of fresh drives, the last of them damaged. */
@@ -162,6 +165,7 @@ int main(void)
     measure("hall_event", call_hall_event, records, DAMPER_STACK);
     measure("hall_tick", call_hall_tick, records, DAMPER_STACK);
     measure("hall_page", call_hall_page, records, DAMPER_STACK);
+    measure("hall_bill", call_hall_bill, records, DAMPER_STACK);
     printf("; DAMPER_STACK is %d, DAMPER_AUDIT_STACK %d\n", DAMPER_STACK, DAMPER_AUDIT_STACK);
     if (fits)
         return 0;

@@ -1,9 +1,9 @@
 /*
  * A host of a hall: it holds the records of three dampers in one row, gives events to those that a list names, ticks them
- * all each second with at most one report, logs the reports, and prints the shift page at the end.
+ * all each second with at most one report, logs the reports, and at the end shares a bill out and prints the shift page.
  *
  *     cc -I include examples/hall.c target/staticlib/libhost.a target/staticlib/libhall_event.a \
- *         target/staticlib/libhall_tick.a target/staticlib/libhall_page.a -o hall && ./hall
+ *         target/staticlib/libhall_tick.a target/staticlib/libhall_page.a target/staticlib/libhall_bill.a -o hall && ./hall
  */
 #include "damper.h"
 
@@ -42,6 +42,17 @@ static void tick(int second)
     }
 }
 
+static void share_out(uint32_t cents)
+{
+    uint32_t shares[DRIVES];
+    uint8_t refusal = damper_hall_bill(row, DRIVES, cents, shares, DRIVES);
+    if (refusal)
+        printf("bill refused by %u\n", refusal);
+    for (unsigned i = 0; !refusal && i < DRIVES; i++)
+        printf("drive %u: travelled %u, pays %u.%02u\n", i, (unsigned)row[i].travel, (unsigned)shares[i] / 100,
+               (unsigned)shares[i] % 100);
+}
+
 static void print_page(void)
 {
     uint8_t page[DRIVES * DAMPER_HALL_LINE];
@@ -67,6 +78,7 @@ int main(void)
         tick(second);
     }
     row[2].commands.hand = 2; /* as storage may damage a record */
+    share_out(10000);
     print_page();
     return 0;
 }

@@ -6,7 +6,6 @@
 #include "damper.h"
 
 #include <stdio.h>
-#include <string.h>
 
 /* The file may hold anything: any bytes are a record. That they are those stored last is for the storage to see to. */
 static bool restore(damper_drive *drive, const char *path)
@@ -20,11 +19,8 @@ static bool restore(damper_drive *drive, const char *path)
 
 static bool store(const damper_drive *drive, const char *path)
 {
-    uint8_t bytes[sizeof *drive];
-    memcpy(bytes, drive, sizeof bytes);
-    bytes[1] = bytes[43] = 0; /* they belong to no field */
     FILE *file = fopen(path, "wb");
-    bool put = file && fwrite(bytes, sizeof bytes, 1, file) == 1;
+    bool put = file && fwrite(drive, sizeof *drive, 1, file) == 1;
     return file && fclose(file) == 0 && put;
 }
 

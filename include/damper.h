@@ -1,10 +1,10 @@
 /*
  * The air-damper drive of document 01 (after KNX chapter 7/10/3, block ADA), written and proved in Rattle, for hosts in
  * C11 and C++ on x86-64 Linux. Link libhost.a for single events, libhost_replay.a for damper_replay, libhall_event.a,
- * libhall_tick.a and libhall_page.a for the three calls of a hall, libhost_audit.a for what a tick goes by and for the audit
- * of any drive's answers, or any of these together: none needs another.
+ * libhall_tick.a, libhall_page.a and libhall_bill.a for the four calls of a hall, libhost_audit.a for what a tick goes by and
+ * for the audit of any drive's answers, or any of these together: none needs another.
  *
- * A drive is a record of 46 bytes, and the host holds it. The host gives it event records of six bytes, one after the
+ * A drive is a record of 48 bytes, and the host holds it. The host gives it event records of six bytes, one after the
  * other: a tick each second, and setpoints, forcing, hand, calibration, faults, parameter writes, restarts and reads as
  * they come. Each call gives the record after the event, and an answer. At a tick the damper moves toward the target of
  * whoever commands, and the answer says how its motor turns. Some ticks report position and status; a log of what the
@@ -18,11 +18,14 @@
  *
  * A host of a hall holds up to 64 records in one row and lends it: damper_hall_event gives an event to the drives that a
  * list names, damper_hall_tick ticks them all and sends at most a quota of reports, and the records are changed where they
- * are. damper_hall_page only reads them: it writes the shift page, a printed line for each drive.
+ * are. damper_hall_page and damper_hall_bill only read them: the one writes the shift page, a printed line for each drive, the
+ * other shares a bill out by how far each damper has travelled.
  *
- * Since request W-204 the record has the field `wait` at its end and 46 bytes in place of 44, and damper_hall_tick takes a
- * quota. A host that was built before must be built again with this header before it links these archives, and stored records
- * of 44 bytes get two bytes of 0 behind them.
+ * The record's layout has a number, DAMPER_LAYOUT, and in the archives each function's name ends in it: damper_step is
+ * damper_step_layout3 there. So a host that was built with a header of another layout does not link: the name that the linker
+ * misses ends in that layout's number, or, from before layout 3, in none. It must be built again with this header. Layout 3 is
+ * request W-208's, with the field `travel`; what was stored in layout 1 or 2, of 44 or 46 bytes, is taken over field by field,
+ * with travel 0 (docs/RECORD.md has the offsets).
  *
  * Of every function below holds:
  *   - A pointer is valid for its length; NULL will do for a length of 0. Bytes that are written to overlap no others that
@@ -35,7 +38,7 @@
  *     damper_audit_hear, which is no work of every tick, at most DAMPER_AUDIT_STACK.
  *
  * Numbers are document 01's, those of a hall request W-201's, percents request W-202's, those of the shift page W-203's, those
- * of the quota W-204's. A position is 0 to 255, where 255 is 100 %; a time is in ticks of a second.
+ * of the quota W-204's, those of the bill W-208's. A position is 0 to 255, where 255 is 100 %; a time is in ticks of a second.
  */
 #ifndef DAMPER_H
 #define DAMPER_H
@@ -48,6 +51,25 @@
 extern "C" {
 #endif
 
+/* The version of header and archives. */
+#define DAMPER_VERSION "0.3.0"
+
+/* The layout of the record, and with it the names of the functions in the archives. */
+#define DAMPER_LAYOUT 3
+#define damper_fresh damper_fresh_layout3
+#define damper_well_formed damper_well_formed_layout3
+#define damper_step damper_step_layout3
+#define damper_read damper_read_layout3
+#define damper_write damper_write_layout3
+#define damper_replay damper_replay_layout3
+#define damper_look_ahead damper_look_ahead_layout3
+#define damper_audit_fresh damper_audit_fresh_layout3
+#define damper_audit_hear damper_audit_hear_layout3
+#define damper_hall_event damper_hall_event_layout3
+#define damper_hall_tick damper_hall_tick_layout3
+#define damper_hall_page damper_hall_page_layout3
+#define damper_hall_bill damper_hall_bill_layout3
+
 /* A number to reckon with is a macro, one of a list an enumeration: C++ compilers object to reckoning with the latter. */
 #define DAMPER_EVENT_LENGTH 6 /* bytes of an event record */
 #define DAMPER_PARAMETERS 12  /* how many there are */
@@ -56,6 +78,7 @@ extern "C" {
 #define DAMPER_HALL_MOST 64   /* drives of a hall, and entries of a list, at most */
 #define DAMPER_HALL_LINE 29   /* bytes of a drive's line on the shift page, the line feed among them */
 #define DAMPER_HALL_QUOTA 64  /* reports that a hall tick may be asked to send, at most */
+#define DAMPER_HALL_BILL 1000000000 /* cents of a bill, at most */
 
 /* An event record: these two bytes, the kind, then data bytes a, b and c, of which unused ones are 0. */
 #define DAMPER_MARK_0 0x5A
@@ -71,7 +94,7 @@ enum damper_kind {
     DAMPER_KIND_CALIBRATION = 6,     /* a: 0 or 1, which both start it */
     DAMPER_KIND_FAULT = 7,           /* a: 1 present, 0 gone */
     DAMPER_KIND_WRITE = 8,           /* parameter write; a: number, value 256 * b + c */
-    DAMPER_KIND_RESTART = 9,         /* after power loss: keeps position and parameters, clears all else */
+    DAMPER_KIND_RESTART = 9,         /* after power loss: keeps position, parameters and travel, clears all else */
     DAMPER_KIND_READ_POSITION = 10,  /* position, nearest percent and status; changes nothing */
     DAMPER_KIND_READ_PARAMETER = 11  /* a: number; changes nothing */
 };
@@ -213,7 +236,9 @@ enum damper_hall_refusal {
     DAMPER_HALL_REFUSAL_CALL = 16,   /* an accepted tick, a list over DAMPER_HALL_MOST, or too few places for the answers */
     DAMPER_HALL_REFUSAL_PAGE = 17,   /* the page has fewer than DAMPER_HALL_LINE bytes for each drive */
     DAMPER_HALL_REFUSAL_QUOTA = 18,  /* the quota is not 1 to DAMPER_HALL_QUOTA */
-    DAMPER_HALL_REFUSAL_TWICE = 19   /* the list names a drive twice */
+    DAMPER_HALL_REFUSAL_TWICE = 19,  /* the list names a drive twice */
+    DAMPER_HALL_REFUSAL_BILL = 20,   /* the bill is over DAMPER_HALL_BILL, or there is not exactly one share for each drive */
+    DAMPER_HALL_REFUSAL_UNMOVED = 21 /* no drive has moved */
 };
 
 /* What damper_hall_tick says of a drive: one of the first two, or the third + 256 * position + status. */
@@ -266,19 +291,20 @@ typedef struct damper_report {
 } damper_report;
 
 /*
- * The drive record. A host may store its 46 bytes (16-bit numbers have their low byte first) and restore them: any bytes
- * are a record, and one that is not well formed is refused by 1. Bytes 1 and 43 belong to no field and may hold anything,
- * so compare records by field, and set these two to 0 in what is stored.
+ * The drive record, in layout 3. A host may store its 48 bytes (numbers have their low byte first) and restore them: any bytes
+ * are a record, and one that is not well formed is refused by 1. No byte belongs to no field, so records may be compared byte by
+ * byte.
  */
 typedef struct damper_drive {
-    uint8_t position;                    /* present position, 0 to 255 */
     uint16_t params[DAMPER_PARAMETERS];  /* values, by place, each in the range of its row; Low at most High */
     damper_commands commands;
     uint16_t age;                        /* ticks since the bus setpoint came, stopping at 65,535; 0 with none */
     damper_run run;                      /* none beside a fault or forcing of 2 or 3 */
     uint16_t since;                      /* ticks since the last report or restart, stopping at 65,535 */
     damper_report last;
+    uint8_t position;                    /* present position, 0 to 255 */
     uint16_t wait;                       /* hall ticks in a row with a report due and not sent, stopping at 65,535 */
+    uint32_t travel;                     /* position units moved by ticks, stopping at 4,294,967,295; a restart keeps it */
 } damper_drive;
 
 /* What damper_step gives. */
@@ -474,6 +500,21 @@ uint8_t damper_hall_tick(damper_drive *row, size_t drives, uint32_t quota, uint3
 uint8_t damper_hall_page(const damper_drive *row, size_t drives, uint8_t *page, size_t bytes);
 
 /*
+ * libhall_bill.a
+ */
+
+/*
+ * Shares a bill in whole cents out over the hall by `travel`, and gives 0: shares[i] is then what drive i pays. Each pays the
+ * part of the bill that its travel is of all travel together, rounded down; cents that are left over go one each to the largest
+ * remainders, of equal ones to the lower number. So the shares add up to the bill, a drive that has not moved pays nothing, and
+ * none is off by a cent or more. Nothing but the travel is looked at: a record that is not well formed pays as well.
+ *
+ * The call is turned down by 14 if drives is 0 or over 64, otherwise by 20 if the bill is over DAMPER_HALL_BILL or places is not
+ * exactly drives, otherwise by 21 if no drive has moved, and then the shares stay as they are. Records are never changed.
+ */
+uint8_t damper_hall_bill(const damper_drive *row, size_t drives, uint64_t bill, uint32_t *shares, size_t places);
+
+/*
  * An answer taken apart. Each function says for which words it holds, and gives 0 for the others.
  */
 
@@ -574,32 +615,33 @@ static inline uint8_t damper_hall_status(uint32_t number)
 DAMPER_SIZE(damper_commands, 8);
 DAMPER_SIZE(damper_run, 2);
 DAMPER_SIZE(damper_report, 3);
-DAMPER_SIZE(damper_drive, 46);
-DAMPER_AT(damper_drive, position, 0);
-DAMPER_AT(damper_drive, params, 2);
-DAMPER_AT(damper_drive, commands, 26);
-DAMPER_AT(damper_drive, commands.fault, 26);
-DAMPER_AT(damper_drive, commands.forcing, 27);
-DAMPER_AT(damper_drive, commands.hand, 28);
-DAMPER_AT(damper_drive, commands.handpos, 29);
-DAMPER_AT(damper_drive, commands.tool, 30);
-DAMPER_AT(damper_drive, commands.toolpos, 31);
-DAMPER_AT(damper_drive, commands.stored, 32);
-DAMPER_AT(damper_drive, commands.setpoint, 33);
-DAMPER_AT(damper_drive, age, 34);
-DAMPER_AT(damper_drive, run, 36);
-DAMPER_AT(damper_drive, run.kind, 36);
-DAMPER_AT(damper_drive, run.left, 37);
-DAMPER_AT(damper_drive, since, 38);
-DAMPER_AT(damper_drive, last, 40);
-DAMPER_AT(damper_drive, last.reported, 40);
-DAMPER_AT(damper_drive, last.position, 41);
-DAMPER_AT(damper_drive, last.status, 42);
-DAMPER_AT(damper_drive, wait, 44);
-DAMPER_SIZE(damper_stepped, 52);
+DAMPER_SIZE(damper_drive, 48);
+DAMPER_AT(damper_drive, params, 0);
+DAMPER_AT(damper_drive, commands, 24);
+DAMPER_AT(damper_drive, commands.fault, 24);
+DAMPER_AT(damper_drive, commands.forcing, 25);
+DAMPER_AT(damper_drive, commands.hand, 26);
+DAMPER_AT(damper_drive, commands.handpos, 27);
+DAMPER_AT(damper_drive, commands.tool, 28);
+DAMPER_AT(damper_drive, commands.toolpos, 29);
+DAMPER_AT(damper_drive, commands.stored, 30);
+DAMPER_AT(damper_drive, commands.setpoint, 31);
+DAMPER_AT(damper_drive, age, 32);
+DAMPER_AT(damper_drive, run, 34);
+DAMPER_AT(damper_drive, run.kind, 34);
+DAMPER_AT(damper_drive, run.left, 35);
+DAMPER_AT(damper_drive, since, 36);
+DAMPER_AT(damper_drive, last, 38);
+DAMPER_AT(damper_drive, last.reported, 38);
+DAMPER_AT(damper_drive, last.position, 39);
+DAMPER_AT(damper_drive, last.status, 40);
+DAMPER_AT(damper_drive, position, 41);
+DAMPER_AT(damper_drive, wait, 42);
+DAMPER_AT(damper_drive, travel, 44);
+DAMPER_SIZE(damper_stepped, 56);
 DAMPER_AT(damper_stepped, drive, 0);
-DAMPER_AT(damper_stepped, word, 46);
-DAMPER_AT(damper_stepped, code, 48);
+DAMPER_AT(damper_stepped, word, 48);
+DAMPER_AT(damper_stepped, code, 52);
 DAMPER_SIZE(damper_event, 5);
 DAMPER_AT(damper_event, refusal, 0);
 DAMPER_AT(damper_event, kind, 1);
@@ -620,10 +662,10 @@ DAMPER_AT(damper_outlook, first, 6);
 DAMPER_AT(damper_outlook, changed, 7);
 DAMPER_AT(damper_outlook, differs, 8);
 DAMPER_AT(damper_outlook, period, 9);
-DAMPER_SIZE(damper_audit, 50);
+DAMPER_SIZE(damper_audit, 52);
 DAMPER_AT(damper_audit, drive, 0);
-DAMPER_AT(damper_audit, seen, 46);
-DAMPER_AT(damper_audit, apart, 48);
+DAMPER_AT(damper_audit, seen, 48);
+DAMPER_AT(damper_audit, apart, 50);
 DAMPER_SIZE(damper_findings, 10);
 DAMPER_AT(damper_findings, spacing, 0);
 DAMPER_AT(damper_findings, waiting, 1);
@@ -635,10 +677,10 @@ DAMPER_AT(damper_findings, otherreport, 6);
 DAMPER_AT(damper_findings, due, 7);
 DAMPER_AT(damper_findings, refusal, 8);
 DAMPER_AT(damper_findings, answer, 9);
-DAMPER_SIZE(damper_audited, 62);
+DAMPER_SIZE(damper_audited, 64);
 DAMPER_AT(damper_audited, audit, 0);
-DAMPER_AT(damper_audited, refusal, 50);
-DAMPER_AT(damper_audited, findings, 51);
+DAMPER_AT(damper_audited, refusal, 52);
+DAMPER_AT(damper_audited, findings, 53);
 
 #undef DAMPER_AT
 #undef DAMPER_SIZE

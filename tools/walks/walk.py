@@ -160,6 +160,7 @@ class Number:
 
 U8 = Number("u8", "w8", 1)
 U32 = Number("u32", "w32", 4)
+U64 = Number("u64", "w64", 8)
 USIZE = Number("usize", "w64", 8)
 
 
@@ -541,7 +542,11 @@ class Walk:
         """The way out behind the last loop, on the context `names`: the rows are as `paths` say, the borrows are closed, the
         refusal is returned, the locals are freed."""
         self.behind(o, c, names, behind, most)
-        o("assigns ! (of-opd ! ", c.look(f"_{refusal}"), ") ", c.init("_0", "(tt, record { fits = fits })"), " $")
+        self.depart(o, c, refusal, paths, used, ends, f"m judged fits{met}", "fits")
+
+    def depart(self, o, c, refusal, paths, used, ends, exits, fits):
+        """The same from the last call on: the local `refusal` is returned, which fits by `fits`."""
+        o("assigns ! (of-opd ! ", c.look(f"_{refusal}"), ") ", c.init("_0", f"(tt, record {{ fits = {fits} }})"), " $")
         for j, path in paths.items():
             o(c.rewrite(f"row{j}", self.family(j), path))
         for j in self.lent:
@@ -558,7 +563,7 @@ class Walk:
             at = f"pureI ! (at-slice {s.element.name} (x{sub(j)} {s.list}) (s{sub(j)} ∷ [])) (tt, (tt, tt)) (refl, room{sub(j)})"
             o(c.move(f"seen{j}", f"bor{j}"), c.fjoin("held"), c.push("at", at), c.fjoin(f"own{j}"))
         o(f"returns ! (look ! {c.at('_0')} refl) $ ", c.forget(*used), c.free(len(self.types)))
-        o(c.keep(self.ends()), f"by ! (exits m judged fits{met})")
+        o(c.keep(self.ends()), f"by ! (exits {exits})")
         o.close()
 
     def open(self, o, c, zeros, paths, known, counts={}, begin="(0, zero-le)"):
@@ -831,7 +836,7 @@ R = T.the-row
 
 -- how many bytes a drive takes
 abbrev size : ℕ
-size = 46
+size = 48
 
 abbrev stayed : Stays (f.ended .signature .params) (f.ended .kept)
 stayed = {nested(stays)}
@@ -864,7 +869,7 @@ module _ {logic} {machine} where
       qed W Ends ∵
       suffices ! _ (ends-at 𝓤 H A f.ended stayed (f.clauses 𝓤 H A mem run) W {ghost} (vint w8 m) m {at_exit} {len_exit}) $ says ! {said} $
 {self.exits()}
-{KNOWN if second else VARIANT}  module _ (𝓣 : Tables 𝓤 H) {knows} where
+{(VARIANT if index[0] == 'Upto n' else '') + (KNOWN if second or index[0] != 'Upto n' else '')}  module _ (𝓣 : Tables 𝓤 H) {knows} where
     module _ {known} ({locations(len(self.types))} : ℕ) where
 {types.lstrip(chr(10))}
       abbrev En : Env 𝓤 H
@@ -961,7 +966,7 @@ use denote.Memory.{pointee, shares, mem as cell-of}
 use denote.Shadow.{pureI}
 use denote.Laws.{Is, shows}
 use denote.Plain.{uint-makes, uint-vals, uint-tells, uint-lawful}
-use denote.Builtin.{u8, u32, usize}
+use denote.Builtin.{u8, u32, u64, usize}
 use denote.Ref.{RefT}
 use denote.Slice.{sliceTy, sliceVal, MutSlice, ShrSlice, Room, heres, codedHoleys, at-slice, slice-vals, mut-slice-tells, shr-slice-tells, shr-slice-copy}
 use denote.Lend.{Held, lends-slice, lends-shr-slice, slice-back}

@@ -36,7 +36,7 @@ writesFound d l = drivesFound stepOf rateWritten d l
 
 -- a drive at a position, with these parameters, to which nothing has happened
 abbrev pub standing : ℕ → List ℕ → Drive
-standing p q = drive p q noCommands 0 noRun 0 (last 0 0 0) 0
+standing p q = drive p q noCommands 0 noRun 0 (last 0 0 0) 0 0
 
 -- the fresh parameters with another Rate: 100 has K 3
 abbrev pub rated : ℕ → List ℕ
@@ -132,7 +132,7 @@ by-backup-kept-way = refl
 unfoldable pub by-backup-last : Stretch backup 200
 unfolding computation
 by-backup-last =
-    stretch backup 200 (drive 0 (set (rated 100) 4 1) (commands 0 0 0 0 0 0 1 200) 1860 noRun 0 (last 0 0 0) 0)
+    stretch backup 200 (drive 0 (set (rated 100) 4 1) (commands 0 0 0 0 0 0 1 200) 1860 noRun 0 (last 0 0 0) 0 0)
     (tickBytes ∷ tickBytes ∷ tickBytes ∷ []) refl refl refl refl refl refl
 
 pub by-backup-last-way : positions by-backup-last ≡ 100 ∷ 200 ∷ 200 ∷ []

@@ -134,7 +134,7 @@ BeforeFirstStep d l c t =
 
 -- Timeout 3, and a setpoint whose age is 1, 2 and 3 before three ticks: at the last of them it is 4, and backup rules.
 abbrev aging : Drive
-aging = drive 0 (set (rated 100) 7 3) (commands 0 0 0 0 0 0 1 255) 1 noRun 0 (last 0 0 0) 0
+aging = drive 0 (set (rated 100) 7 3) (commands 0 0 0 0 0 0 1 255) 1 noRun 0 (last 0 0 0) 0 0
 
 pub before-first-step-is-wrong : (Arrives BeforeFirstStep → ⊥) × Unmet aging (replicate 3 tickBytes) bus 255
 unfolding computation
@@ -195,7 +195,7 @@ pub source-stays-is-wrong : SourceStays → ⊥
 unfolding computation
 source-stays-is-wrong f =
     let reached : 80 ≡ℕ 180 =
-    f (drive 180 (rated 100) (commands 0 0 1 180 0 0 0 0) 0 noRun 0 (last 0 0 0) 0) (handOn 0 ∷ tickBytes ∷ []) hand 180 refl
+    f (drive 180 (rated 100) (commands 0 0 1 180 0 0 0 0) 0 noRun 0 (last 0 0 0) 0 0) (handOn 0 ∷ tickBytes ∷ []) hand 180 refl
     record { source = refl; target = refl } refl refl in
     absurd (omega arith)
 

@@ -12,7 +12,7 @@ use Rattle.damper.specs.declared.Run.{Run}
 use Rattle.damper.specs.declared.Last.{Last}
 use Rattle.damper.specs.declared.Drive.{Drive}
 use Rattle.damper.specs.declared.Advanced.{Advanced}
-use Rattle.damper.specs.Record.{run, withCounts, withPosition, withRun, withReport}
+use Rattle.damper.specs.Record.{run, withCounts, withMove, withRun, withReport}
 
 -- step 1: "Since rises by one, and so does age if there is a setpoint."
 unfoldable pub aged : Drive → Drive
@@ -34,9 +34,9 @@ rulingSource d = sourceAt (ruling d)
 unfoldable pub targetAt : Drive → ℕ → ℕ
 targetAt d rank = getD (targets (d .commands) (d .run .kind) (d .position) (d .params)) rank 0
 
--- step 2, toward the target at a rank
+-- step 2, toward the target at a rank; W-208: the move is counted
 unfoldable pub moved : Drive → ℕ → Drive
-moved d rank = withPosition d (toward (d .position) (targetAt d rank) (rate (d .params)))
+moved d rank = withMove d (toward (d .position) (targetAt d rank) (rate (d .params)))
 
 -- step 3: "A run loses one tick and ends at 0."
 unfoldable pub ranDown : Run → Run

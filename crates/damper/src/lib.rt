@@ -5,7 +5,7 @@ ghost use lib.ListN.{length};
 ghost use Rattle.numbers.specs.Numbers.{pick};
 ghost use Rattle.table.specs.Table.{rows};
 ghost use Rattle.motion.specs.Motion.{runTicks};
-ghost use Rattle.damper.specs.Record.{freshDrive, withCounts, withPosition, withRun, withReport, withHeard, withParam, withSetpoint, withTool, withHand, withWait, cleared};
+ghost use Rattle.damper.specs.Record.{freshDrive, withCounts, withPosition, withMove, withRun, withReport, withHeard, withParam, withSetpoint, withTool, withHand, withWait, cleared};
 ghost use Rattle.damper.specs.WellFormed.{runFits, lastFits, wellFormed};
 use answer::Answer;
 use rules::Commands;
@@ -41,11 +41,9 @@ pub const NO_REPORT: Last = Last {
 };
 
 // A host in C or Rust may hold the record and restore it from storage: every field is a number, an array of numbers or a struct of
-// such, so any bytes are a record. Whether each flag is 0 or 1 is part of well-formedness.
+// such, so any bytes are a record. Whether each flag is 0 or 1 is part of well-formedness. In this order no byte belongs to no field.
 #[repr(C)]
 pub struct Drive {
-    // 0 to 255, where 255 is 100 %.
-    pub position: u8,
     // The twelve parameters, in the table's order.
     pub params: [u16; table::COUNT],
     // What the latest commands say.
@@ -56,8 +54,12 @@ pub struct Drive {
     // Ticks since the last report or restart, which stop at 65,535.
     pub since: u16,
     pub last: Last,
+    // 0 to 255, where 255 is 100 %.
+    pub position: u8,
     // Hall ticks in a row at which a report was due and not sent, which stop at 65,535. A single tick does not look at it.
     pub wait: u16,
+    // The position units moved, which stop at 4,294,967,295.
+    pub travel: u32,
 }
 
 // A drive after steps 1 to 3 of a tick, the ruling rank during the move, and the motor: 0 still, 1 rising, 2 falling, or 1 and 2
@@ -120,14 +122,15 @@ impl Drive {
         ensures { λ r. ⌜ r ≡ freshDrive ⌝ }
     {
         Drive {
-            position: 0,
             params: table::fresh_values(),
             commands: rules::NO_COMMANDS,
             age: 0,
             run: NO_RUN,
             since: 0,
             last: NO_REPORT,
+            position: 0,
             wait: 0,
+            travel: 0,
         }
     }
 
@@ -166,6 +169,16 @@ impl Drive {
         ensures { λ r. ⌜ r ≡ withPosition self position ⌝ }
     {
         self.position = position;
+        self
+    }
+
+    // The position after a move, which is counted.
+    pub fn with_move(mut self, position: u8) -> Drive
+        ensures { λ r. ⌜ r ≡ withMove self position ⌝ }
+    {
+        let travel = numbers::counted(self.travel, numbers::distance(self.position, position));
+        self.position = position;
+        self.travel = travel;
         self
     }
 
@@ -244,6 +257,7 @@ impl Drive {
         let mut d = Drive::fresh();
         d.position = self.position;
         d.params = params;
+        d.travel = self.travel;
         d
     }
 }

@@ -50,11 +50,7 @@ impl Drive {
         ensures { λ r. ⌜ r ≡ moved self rank ⌝ }
     {
         let params = self.params;
-        self.with_position(motion::toward(
-            self.position,
-            self.target(rank),
-            params[table::RATE] as u8,
-        ))
+        self.with_move(motion::toward(self.position, self.target(rank), params[table::RATE] as u8))
     }
 
     // Steps 1 to 3.

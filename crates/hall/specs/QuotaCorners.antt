@@ -17,13 +17,13 @@ use Rattle.hall.specs.Quota.{hallTicked, allowed}
 -- a drive with MinRepTime 1, due at the next tick for want of a report, that waited `w` hall ticks; one that is not due; one that is not
 -- well formed
 abbrev quick : ℕ → Drive
-quick w = drive 0 (set freshValues 3 1) noCommands 0 noRun 0 (last 0 0 0) w
+quick w = drive 0 (set freshValues 3 1) noCommands 0 noRun 0 (last 0 0 0) w 0
 
 abbrev undue : ℕ → Drive
 undue w = withWait freshDrive w
 
 abbrev broken : ℕ → Drive
-broken w = drive 0 freshValues (interlocked noCommands 0 4) 0 noRun 0 (last 0 0 0) w
+broken w = drive 0 freshValues (interlocked noCommands 0 4) 0 noRun 0 (last 0 0 0) w 0
 
 -- since, whether there is a last report, wait and the number after a hall tick
 abbrev shown : Outcome → List ℕ

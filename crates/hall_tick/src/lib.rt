@@ -59,7 +59,7 @@ fn send_one(d: Drive) -> Drive
 // longest in any case. Refused by 14, 16 or 18, it changes nothing. Who was sent is read off the numbers: this is a choice that it may make,
 // and decides all else.
 #[no_mangle]
-pub extern "C" fn damper_hall_tick(row: &mut [Drive], quota: u32, numbers: &mut [u32]) -> u8
+pub extern "C" fn damper_hall_tick_layout3(row: &mut [Drive], quota: u32, numbers: &mut [u32]) -> u8
     ensures { λ r. ⌜ (r ≡ callRefusal (length (now (row .entry))) (tick quota (sentBy (now (numbers .exit))) (length (now (numbers .entry)))))
         × (allowedCall (now (row .entry)) (tick quota (sentBy (now (numbers .exit))) (length (now (numbers .entry)))) ≡ true)
         × (now (row .exit) ≡ rowAfter hallStep (now (row .entry)) (turnsOf (length (now (row .entry))) (tick quota (sentBy (now (numbers .exit))) (length (now (numbers .entry))))))

@@ -11,3 +11,4 @@ pub mod Facts
 pub mod Theorem
 pub mod Standing
 pub mod LogLaws
+pub mod Travel

@@ -5,7 +5,7 @@ use mathlib.Core.List.{List, [], _∷_}
 use Prim.Native.Nat.{ℕ, _+_}
 use lib.Dec.{ltb, eqb}
 use lib.ListN.{getD}
-use Rattle.numbers.specs.Numbers.{pick, on, bit}
+use Rattle.numbers.specs.Numbers.{pick, on, bit, distance}
 use Rattle.table.specs.declared.Row.{Row}
 use Rattle.table.specs.Table.{rows, damperMode, startSynchronization, timeout, rate, low, high}
 use Rattle.event.specs.declared.Event.{Event}
@@ -174,6 +174,11 @@ positionIn [] = 0
 positionIn (e ∷ h) =
     let p = positionIn h in
     pick (isTick e) (toward p (targetFrom p e h) (rate (parameters h))) p
+
+-- document 02, W-208: "the sum of all its moves in the list of events": from the position before each event to that after it
+unfoldable pub travelIn : List Event → ℕ
+travelIn [] = 0
+travelIn (e ∷ h) = travelIn h + distance (positionIn h) (positionIn (e ∷ h))
 
 -- "the status that a tick leaves ..; for it the present tick counts among those a run has passed": of the history with that tick
 unfoldable pub statusIn : List Event → ℕ

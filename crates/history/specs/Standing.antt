@@ -42,7 +42,7 @@ abbrev pub after : List (List ℕ) → Drive
 after l = driveAfter freshDrive (outcomes stepOf freshDrive l)
 
 module _ (l : List (List ℕ)) where
-  history : C.accepted (C.traceOf stepOf l) ≡ R.historyOf l
+  pub history : C.accepted (C.traceOf stepOf l) ≡ R.historyOf l
   unfolding C.accepted
   history = accepted-read l _ [] (outcomes-length stepOf freshDrive l)
 

@@ -9,7 +9,12 @@ use damper::Drive;
 use replay::Replayed;
 
 #[no_mangle]
-pub extern "C" fn damper_replay(d: Drive, s: &[u8], words: &mut [u8], codes: &mut [u32]) -> Replayed
+pub extern "C" fn damper_replay_layout3(
+    d: Drive,
+    s: &[u8],
+    words: &mut [u8],
+    codes: &mut [u32],
+) -> Replayed
     ensures drive { λ r. ⌜ r .drive ≡ driveAfter d (outcomes stepOf d (carried (now (s .entry)) (now (words .entry)) (now (codes .entry)))) ⌝ }
     ensures count { λ r. ⌜ r .count ≡ length (carried (now (s .entry)) (now (words .entry)) (now (codes .entry))) ⌝ }
     ensures words { λ _. ⌜ now (words .exit) ≡ answersIn wordOf (outcomes stepOf d (carried (now (s .entry)) (now (words .entry)) (now (codes .entry)))) (now (words .entry)) ⌝ }

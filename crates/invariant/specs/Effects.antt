@@ -1,12 +1,12 @@
 -- What an accepted event does to each field of the record, one equation a field, and what a step does with a refusal.
-use mathlib.Core.Path.{_≡_, refl, ap}
+use mathlib.Core.Path.{_≡_, refl, sym, ap, _∙_}
 use mathlib.Core.Bool.{Bool, true, false, not, _&&_, _||_}
 use mathlib.Core.List.{List}
 use Prim.Native.Nat.{ℕ}
 use lib.Dec.{eqb}
 use lib.ListN.{set}
 use borrow.Author.Tests.{ne-eqb}
-use Rattle.numbers.specs.Numbers.{pick, on, bit, next}
+use Rattle.numbers.specs.Numbers.{pick, on, bit, distance, next, counted}
 use Rattle.numbers.specs.Laws.{cases}
 use Rattle.table.specs.Table.{placeOf, startSynchronization, rate}
 use Rattle.event.specs.declared.Event.{Event}
@@ -20,7 +20,7 @@ use Rattle.damper.specs.declared.Run.{Run}
 use Rattle.damper.specs.declared.Drive.{Drive}
 use Rattle.damper.specs.declared.Outcome.{Outcome}
 use Rattle.answer.specs.declared.Answer.the-variants.{No, Report}
-use Rattle.damper.specs.Record.{run, noRun, last, withCounts, withPosition, withRun, withSetpoint, withTool}
+use Rattle.damper.specs.Record.{run, noRun, last, withCounts, withMove, withRun, withSetpoint, withTool}
 use Rattle.damper.specs.WellFormed.{wellFormed}
 use Rattle.damper.specs.Tick.{aged, ruling, targetAt, moved, ranDown, advance, statusOf, due}
 use Rattle.answer.specs.Answer.{isReport, numberOf}
@@ -155,6 +155,12 @@ module _ (d : Drive) where
   unfolding obeyed applied tickWith advance aged moved calibrated restarted
   wait-after = plain (λ o. o .drive .wait) d _ refl
 
+  -- the travel: a tick counts its move, and no other event changes it
+  pub travel-after : (e : Event) → badKind (e .kind) ≡ false
+      → applied d e .drive .travel ≡ pick (eqb (e .kind) 1) (advance d .drive .travel) (d .travel)
+  unfolding obeyed applied tickWith advance aged moved calibrated restarted
+  travel-after = plain (λ o. o .drive .travel) d _ refl
+
   -- the answer: it is a report just where a tick is due, and no refusal
   pub report-after : (e : Event) → badKind (e .kind) ≡ false
       → isReport (applied d e .answer) ≡ eqb (e .kind) 1 && due (advance d .drive)
@@ -173,7 +179,7 @@ module _ (d : Drive) where
 
   -- steps 1 to 3 of a tick: the record whole, then field by field
   pub advance-drive : advance d .drive ≡ withRun
-      (withPosition (withCounts d (pick (on (d .commands .stored)) (next (d .age)) (d .age)) (next (d .since)))
+      (withMove (withCounts d (pick (on (d .commands .stored)) (next (d .age)) (d .age)) (next (d .since)))
       (toward (d .position) (targetAt (aged d) (ruling (aged d))) (rate (d .params))))
       (ranDown (d .run))
   unfolding advance aged moved
@@ -190,6 +196,9 @@ module _ (d : Drive) where
 
   pub advance-position : advance d .drive .position ≡ toward (d .position) (targetAt (aged d) (ruling (aged d))) (rate (d .params))
   advance-position = ap (λ x. x .position) advance-drive
+
+  pub advance-travel : advance d .drive .travel ≡ counted (d .travel) (distance (d .position) (advance d .drive .position))
+  advance-travel = ap (λ x. x .travel) advance-drive ∙ ap (λ (p : ℕ). counted (d .travel) (distance (d .position) p)) (sym advance-position)
 
   -- a step that refuses keeps the record and says the number; one that does not applies the event
   pub step-refused : (s : List ℕ) → (refusalOf d s ≡ 0 → ⊥) → stepOf d s ≡ outcome d (No (refusalOf d s))

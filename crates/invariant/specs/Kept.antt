@@ -29,7 +29,7 @@ use Rattle.damper.specs.declared.Run.{Run}
 use Rattle.damper.specs.declared.Drive.{Drive}
 use Rattle.damper.specs.declared.Advanced.{Advanced}
 use Rattle.damper.specs.declared.Outcome.{Outcome}
-use Rattle.damper.specs.Record.{run, noRun, freshDrive, withCommands, withCounts, withPosition, withRun, withReport, withParam, withSetpoint, withTool, withHand, withInterlocks, cleared}
+use Rattle.damper.specs.Record.{run, noRun, freshDrive, withCommands, withCounts, withPosition, withMove, withRun, withReport, withParam, withSetpoint, withTool, withHand, withInterlocks, cleared}
 use Rattle.damper.specs.WellFormed.{runFits, lastFits, wellFormed}
 use Rattle.damper.specs.Laws.{wf-ranges}
 use Rattle.damper.specs.Tick.{aged, moved, ranDown, advance, statusOf}
@@ -177,6 +177,11 @@ module _ (d : Drive) (w : wellFormed d ≡ true) where
   unfolding wellFormed
   wf-position p = w
 
+  -- and any move
+  pub wf-move : (p : ℕ) → wellFormed (withMove d p) ≡ true
+  unfolding wellFormed
+  wf-move p = w
+
   -- a run that fits
   pub wf-run : (r : Run) → runFits r (runTicks (rate (d .params))) (forbidsRun (d .commands)) ≡ true → wellFormed (withRun d r) ≡ true
   wf-run r h = wf-commands (d .commands) (d .age) r said h
@@ -289,7 +294,7 @@ wf-tick-with false a w = w
 -- steps 1 to 3 of a tick
 pub wf-advance : (d : Drive) → wellFormed d ≡ true → wellFormed (advance d .drive) ≡ true
 unfolding advance aged moved
-wf-advance d w = wf-ran-down _ (wf-position (aged d) (wf-aged d w) _)
+wf-advance d w = wf-ran-down _ (wf-move (aged d) (wf-aged d w) _)
 
 -- kind 1
 pub wf-tick : (d : Drive) → wellFormed d ≡ true → wellFormed (ticked d .drive) ≡ true
@@ -306,10 +311,10 @@ wf-applied d e w h r =
     (λ a b c x y. wf-tick d w)
     (λ a b c x y. wf-setpoint d w a)
     (λ a b c x y. wf-commanded d w b c)
-    (λ a b c x y. wf-interlocks d w _ a (said d w .fault) (not-false _ x))
+    (λ a b c x y. wf-interlocks d w (d .commands .fault) a (said d w .fault) (not-false _ x))
     (λ a b c x y. wf-hand d w a _ (and-intro (not-false (isFlag a) x) (off-pick a b 0 (or-true (on a)))))
     (λ a b c x y. wf-calibrated d w (y .run))
-    (λ a b c x y. wf-interlocks d w a _ (not-false _ x) (said d w .forcing))
+    (λ a b c x y. wf-interlocks d w a (d .commands .forcing) (not-false _ x) (said d w .forcing))
     (λ a b c x y. wf-write d w a _ (not-false _ (y .range)) (y .order) (y .rate))
     (λ a b c x y. wf-restarted d w)
     (λ a b c x y. w)

@@ -47,7 +47,7 @@ abbrev pub fields : Drive → List ℕ
 fields d =
     d .position ∷ d .commands .fault ∷ d .commands .forcing ∷ d .commands .hand ∷ d .commands .handpos ∷ d .commands .tool
     ∷ d .commands .toolpos ∷ d .commands .stored ∷ d .commands .setpoint ∷ d .age ∷ d .run .kind ∷ d .run .left ∷ d .since
-    ∷ d .last .reported ∷ d .last .position ∷ d .last .status ∷ d .wait
+    ∷ d .last .reported ∷ d .last .position ∷ d .last .status ∷ d .wait ∷ d .travel
     ∷ d .params
 
 abbrev pub left : List (List ℕ) → List ℕ
@@ -67,13 +67,13 @@ pub table : List Row
 unfolding computation
 table =
     -- "forcing 0 to 3, as kind 4 gave it", "all three kept as positions": 1 is kept as 1, values are kept past High, an age is 0 at first
-    -- and rises with a tick
+    -- and rises with a tick; W-208: the tick's move is counted
     row (numbers (left (write 205 9 ∷ forcing 1 ∷ hand 255 ∷ lte 100 1 ∷ lte 50 0 ∷ tick ∷ [])))
-    (numbers (5 ∷ 0 ∷ 1 ∷ 1 ∷ 255 ∷ 1 ∷ 255 ∷ 1 ∷ 127 ∷ 1 ∷ 0 ∷ 0 ∷ 1 ∷ 0 ∷ 0 ∷ 0 ∷ 0
+    (numbers (5 ∷ 0 ∷ 1 ∷ 1 ∷ 255 ∷ 1 ∷ 255 ∷ 1 ∷ 127 ∷ 1 ∷ 0 ∷ 0 ∷ 1 ∷ 0 ∷ 0 ∷ 0 ∷ 0 ∷ 5
     ∷ 1 ∷ 0 ∷ 1 ∷ 10 ∷ 0 ∷ 0 ∷ 0 ∷ 1860 ∷ 900 ∷ 5 ∷ 0 ∷ 9 ∷ [])) refl
-    -- "Restart keeps position and parameters, clears all else and sets since to 0"
+    -- "Restart keeps position and parameters, clears all else and sets since to 0"; W-208: it keeps the count too
     ∷ row (numbers (left (write 203 255 ∷ write 117 1 ∷ setpoint 200 ∷ lte 100 1 ∷ hand 9 ∷ tick ∷ tick ∷ forcing 1 ∷ restart ∷ [])))
-    (numbers (9 ∷ (replicate 16 0 ++ (1 ∷ 0 ∷ 1 ∷ 1 ∷ 0 ∷ 0 ∷ 0 ∷ 1860 ∷ 900 ∷ 255 ∷ 0 ∷ 255 ∷ [])))) refl
+    (numbers (9 ∷ (replicate 16 0 ++ (9 ∷ 1 ∷ 0 ∷ 1 ∷ 1 ∷ 0 ∷ 0 ∷ 0 ∷ 1860 ∷ 900 ∷ 255 ∷ 0 ∷ 255 ∷ [])))) refl
     -- "so raising Timeout can revive it"
     ∷ row (answers (quick (write 201 1 ∷ setpoint 200 ∷ tick ∷ tick ∷ write 201 3 ∷ tick ∷ [])))
     (answers (Done ∷ Done ∷ Report 200 1 1 0 ∷ Report 0 0 2 32 ∷ Done ∷ Report 200 1 1 0 ∷ [])) refl

@@ -30,3 +30,7 @@ distance a b = (a - b) + (b - a)
 -- one more, for a count that stops at 65,535
 abbrev pub next : ℕ → ℕ
 next n = min (n + 1) 65535
+
+-- `n` more, for a count that stops at 4,294,967,295
+abbrev pub counted : ℕ → ℕ → ℕ
+counted count n = min (count + n) 4294967295

@@ -3,7 +3,7 @@ ghost use mathlib.Core.Path.{_≡_};
 ghost use mathlib.Core.Bool.{_||_};
 ghost use Prim.Native.Nat.{ℕ, _<_, _≤_, min, max};
 ghost use lib.Dec.{eqb};
-ghost use Rattle.numbers.specs.Numbers.{pick, bit, flagAt, distance, next};
+ghost use Rattle.numbers.specs.Numbers.{pick, bit, flagAt, distance, next, counted};
 
 pub fn pick8(c: bool, a: u8, b: u8) -> u8
     ensures { λ r. ⌜ r ≡ pick c a b ⌝ }
@@ -82,4 +82,16 @@ pub fn next16(n: u16) -> u16
     ensures { λ r. ⌜ r ≡ next n ⌝ }
 {
     if n < 65535 { n + 1 } else { 65535 }
+}
+
+// A count that stops at 4,294,967,295.
+pub fn counted(count: u32, n: u8) -> u32
+    ensures { λ r. ⌜ r ≡ counted count n ⌝ }
+{
+    let sum = count as u64 + n as u64;
+    if sum < 4294967295 {
+        sum as u32
+    } else {
+        4294967295
+    }
 }

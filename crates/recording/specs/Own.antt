@@ -83,8 +83,9 @@ last-whole l h =
     let s = eqb-true _ 0 (and-right (isFlag (l .reported) && eqb (l .position) 0) _ k) in
     rw z (λ i. last (r i) (p i) (s i)))
 
-pub same-drive : (a : Audit) (d : Drive) (t : C.Trace) → Follows a t → Good d t → a .drive .wait ≡ d .wait → a .drive ≡ d
-same-drive a d t f g w =
+pub same-drive : (a : Audit) (d : Drive) (t : C.Trace) → Follows a t → Good d t → a .drive .wait ≡ d .wait
+    → a .drive .travel ≡ d .travel → a .drive ≡ d
+same-drive a d t f g w v =
     let p = f .position ∙ sym (g .position) in
     let q = f .agrees .params ∙ sym (g .agrees .params) in
     let c = f .agrees .commands ∙ sym (g .agrees .commands) in
@@ -92,7 +93,7 @@ same-drive a d t f g w =
     let r = f .agrees .run ∙ sym (g .agrees .run) in
     let s = f .since ∙ sym (g .since) in
     let l = last-whole _ (K.parts _ (f .wf) .last) ∙ ap lastFrom (f .last ∙ sym (g .last)) ∙ sym (last-whole _ (K.parts _ (g .wf) .last)) in
-    λ i. drive (p i) (q i) (c i) (n i) (r i) (s i) (l i) (w i)
+    λ i. drive (p i) (q i) (c i) (n i) (r i) (s i) (l i) (w i) (v i)
 
 -- findings that are clean, and none of another answer, are none
 none-found : (f : Findings) → Clean f → f .answer ≡ false → f ≡ nothing
@@ -123,6 +124,12 @@ pub wait-kept : (a : Audit) (s : List ℕ) (y : Answer) → wellFormed (a .drive
 unfolding auditOf followed metBy
 wait-kept a s y w = rw w
 
+-- and its travel
+pub travel-kept : (a : Audit) (s : List ℕ) (y : Answer) → wellFormed (a .drive) ≡ true
+    → auditOf a s y .audit .drive .travel ≡ stepOf (a .drive) s .drive .travel
+unfolding auditOf followed metBy
+travel-kept a s y w = rw w
+
 -- what is heard of a record is what happened, its position too
 pub own-heard : (d : Drive) (t : C.Trace) (s : List ℕ) → Good d t
     → momentOf s (stepOf d s) ≡ heardAs t record { bytes = s; answer = stepOf d s .answer }
@@ -143,19 +150,20 @@ own-trace l = trace-from l freshDrive [] fresh-good
 
 -- an audit and a drive of the same trace, carried over a list: nothing is found
 found-from : (l : List (List ℕ)) (a : Audit) (d : Drive) (t : C.Trace) → Follows a t → Good d t → a .drive .wait ≡ d .wait
-    → Every (λ f. f ≡ nothing) (findingsFrom a (recordingOf l (outcomes stepOf d l)))
+    → a .drive .travel ≡ d .travel → Every (λ f. f ≡ nothing) (findingsFrom a (recordingOf l (outcomes stepOf d l)))
 unfolding outcomes recordingOf findingsFrom
-found-from [] a d t f g w = none
-found-from (s ∷ l) a d t f g w =
+found-from [] a d t f g w v = none
+found-from (s ∷ l) a d t f g w v =
     let o = stepOf d s in
     let x : Heard = record { bytes = s; answer = o .answer } in
-    let e = same-drive a d t f g w in
+    let e = same-drive a d t f g w v in
     let h = own-heard d t s g in
     let k = facts d t s g in
     let c = holds-clean _ t _ (told-next a t f x) (rw h at (holds d t s o k (due-sends d t s g))) in
     more (none-found _ c (same-answer a s (o .answer) (f .wf) (rw e)))
-    (found-from l _ (o .drive) (heardAs t x ∷ t) (follows-next a t f x) (rw h at (k .good)) (wait-kept a s (o .answer) (f .wf) ∙ rw e))
+    (found-from l _ (o .drive) (heardAs t x ∷ t) (follows-next a t f x) (rw h at (k .good)) (wait-kept a s (o .answer) (f .wf) ∙ rw e)
+    (travel-kept a s (o .answer) (f .wf) ∙ rw e))
 
 -- For every list of event records, the audit finds nothing in what the proved drive, fresh at first, answers to them.
 pub own-clean : (l : List (List ℕ)) → Every (λ f. f ≡ nothing) (findingsFrom freshAudit (recordingOf l (outcomes stepOf freshDrive l)))
-own-clean l = found-from l freshAudit freshDrive [] fresh-follows fresh-good refl
+own-clean l = found-from l freshAudit freshDrive [] fresh-follows fresh-good refl refl

@@ -31,7 +31,7 @@ use Rattle.audit.specs.Audit.{freshAudit, metBy, findingsOf, auditOf}
 use Rattle.recording.specs.Recording.{Heard, recordsIn, recordingOf, heardAs, findingsFrom}
 use Rattle.recording.specs.Follows.{Follows, fresh-follows}
 use Rattle.recording.specs.Theorem.{follows-next}
-use Rattle.recording.specs.Own.{same-drive, wait-kept, own-heard}
+use Rattle.recording.specs.Own.{same-drive, wait-kept, travel-kept, own-heard}
 
 -- Each value of an answer behind its first is a byte; of a percent it is enough that it is at most its position. No bound of a position, of
 -- a parameter or of a refusal's number is asked: an answer with the same numbers gives it.
@@ -119,22 +119,23 @@ answer-same a x w h e =
 
 -- an audit and a drive of the same trace, carried over a recording in which `answer` is not found
 same-from : (l : List Heard) (a : Audit) (d : Drive) (t : C.Trace) → Follows a t → Good d t → a .drive .wait ≡ d .wait
-    → Every (λ x. Fits (x .answer)) l → Every (λ f. f .answer ≡ false) (findingsFrom a l)
+    → a .drive .travel ≡ d .travel → Every (λ x. Fits (x .answer)) l → Every (λ f. f .answer ≡ false) (findingsFrom a l)
     → l ≡ recordingOf (recordsIn l) (outcomes stepOf d (recordsIn l))
 unfolding outcomes recordingOf findingsFrom
-same-from [] a d t f g w none none = refl
-same-from (x ∷ l) a d t f g w (more h hs) (more n ns) =
+same-from [] a d t f g w v none none = refl
+same-from (x ∷ l) a d t f g w v (more h hs) (more n ns) =
     let s = x .bytes in
     let o = stepOf d s in
-    let e = same-drive a d t f g w in
+    let e = same-drive a d t f g w v in
     let y : x .answer ≡ o .answer = rw (← e) (answer-same a x (f .wf) h n) in
     let own : record { bytes = s; answer = o .answer } ≡ x = λ i. record { bytes = s; answer = sym y i } in
     let k : Good (o .drive) (heardAs t x ∷ t) = rw (own-heard d t s g ∙ ap (heardAs t) own) at (facts d t s g .good) in
-    let rest = same-from l _ (o .drive) (heardAs t x ∷ t) (follows-next a t f x) k (wait-kept a s (x .answer) (f .wf) ∙ rw e) hs ns in
+    let rest = same-from l _ (o .drive) (heardAs t x ∷ t) (follows-next a t f x) k (wait-kept a s (x .answer) (f .wf) ∙ rw e)
+    (travel-kept a s (x .answer) (f .wf) ∙ rw e) hs ns in
     λ i. sym own i ∷ rest i
 
 -- For every recording whose answers fit (`At 1 0 s` and `At 0 256 s` have one number): where `answer` is nowhere found, it is the proved
 -- drive's own recording of its event records, fresh at first, whatever bytes these hold.
 pub audit-same : (l : List Heard) → Every (λ x. Fits (x .answer)) l → Every (λ f. f .answer ≡ false) (findingsFrom freshAudit l)
     → l ≡ recordingOf (recordsIn l) (outcomes stepOf freshDrive (recordsIn l))
-audit-same l = same-from l freshAudit freshDrive [] fresh-follows fresh-good refl
+audit-same l = same-from l freshAudit freshDrive [] fresh-follows fresh-good refl refl

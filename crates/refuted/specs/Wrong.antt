@@ -59,7 +59,7 @@ giving p s =
 
 -- the last report
 abbrev pub withLast : Drive → Last → Drive
-withLast d l = drive (d .position) (d .params) (d .commands) (d .age) (d .run) (d .since) l (d .wait)
+withLast d l = drive (d .position) (d .params) (d .commands) (d .age) (d .run) (d .since) l (d .wait) (d .travel)
 
 -- Document 01, "Which idlers get caught?"
 

@@ -15,7 +15,7 @@ use Rattle.answer.specs.declared.Answer.the-variants.{No}
 use Rattle.answer.specs.Answer.{numberOf, valuesOf, isReport}
 use Rattle.damper.specs.declared.Drive.{Drive}
 use Rattle.damper.specs.declared.Outcome.{Outcome}
-use Rattle.damper.specs.Record.{drive, last, noRun, freshDrive, withCounts, withWait}
+use Rattle.damper.specs.Record.{drive, last, noRun, freshDrive, withCounts, withSetpoint, withWait}
 use Rattle.damper.specs.WellFormed.{wellFormed}
 use Rattle.damper.specs.Tick.{advance, due, reported}
 use Rattle.damper.specs.Step.{outcome, tickWith}
@@ -26,13 +26,13 @@ use Rattle.refuted_hall.specs.Closed.{computation, Case, Refuted, all-re
 -- a drive with MinRepTime 1, due at the next tick for want of a report, that waited `w` hall ticks; one that is not due; one that is not
 -- well formed
 abbrev quick : ℕ → Drive
-quick w = drive 0 (set freshValues 3 1) noCommands 0 noRun 0 (last 0 0 0) w
+quick w = drive 0 (set freshValues 3 1) noCommands 0 noRun 0 (last 0 0 0) w 0
 
 abbrev undue : ℕ → Drive
 undue w = withWait freshDrive w
 
 abbrev broken : ℕ → Drive
-broken w = drive 0 freshValues (interlocked noCommands 0 4) 0 noRun 0 (last 0 0 0) w
+broken w = drive 0 freshValues (interlocked noCommands 0 4) 0 noRun 0 (last 0 0 0) w 0
 
 -- Wrong hall ticks of a drive.
 
@@ -96,6 +96,26 @@ statusFirst a = pick (isReport a) (65536 + 256 * getD (valuesOf a) 3 0 + getD (v
 abbrev numberBy : (Answer → ℕ) → Drive → List ℕ → Case
 numberBy wrong d after = record { given = shown tickNumber (hallTicked true d); wrong = shown wrong (hallTicked true d); paper = after }
 
+-- the move of a report that is held is not counted (W-208), and a drive that moves by 5, to which that happens
+abbrev heldUncounted : HallTick
+heldUncounted sent d =
+    let o = hallTicked sent d in
+    let n = o .drive in
+    pick (dueNow d && not sent)
+    (outcome (drive (n .position) (n .params) (n .commands) (n .age) (n .run) (n .since) (n .last) (n .wait) (d .travel)) (o .answer))
+    o
+
+abbrev moving : Drive
+moving = withSetpoint (quick 0) 255
+
+-- a drive, whether it is sent, and its count then by document 02
+abbrev countedBy : HallTick → Drive → Bool → ℕ → Case
+countedBy wrong d sent count = record {
+  given = hallTicked sent d .drive .travel ∷ [];
+  wrong = wrong sent d .drive .travel ∷ [];
+  paper = count ∷ [];
+}
+
 abbrev pub tickTable : List Case
 tickTable =
     -- "Each drive keeps how many hall ticks in a row it was due and not sent, stopping at 65,535; fresh, sent or not due it is 0, but a
@@ -111,6 +131,8 @@ tickTable =
     ∷ tickedBy heldStored (quick 7) false (1 ∷ 0 ∷ 8 ∷ 0 ∷ [])
     -- "65,536 + 256 × position + status for a report": position 0 and status 32
     ∷ numberBy statusFirst (quick 0) (0 ∷ 1 ∷ 0 ∷ 65568 ∷ [])
+    -- W-208: "Each drive counts the position units it has moved"
+    ∷ countedBy heldUncounted moving false 5
     ∷ []
 
 pub ticks-refuted : Every Refuted tickTable

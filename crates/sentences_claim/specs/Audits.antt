@@ -157,17 +157,17 @@ module _ (d : Drive) (p : ℕ) (w : wellFormed d ≡ true) where
 
   -- there is a target
   pub some-target : (t : ℕ) × P.Target (d .commands) (d .run .kind) p (d .params) (P.ruling d) t
-  some-target = let k = some-tick there (same-formed there .0 (K.wf-position d w p)) in (k .0, k .3)
+  some-target = let k = some-tick there (same-formed there .0 (K.wf-position d w p)) in (k .0, k .4)
 
   pub tick-from : (t : ℕ) → P.Target (d .commands) (d .run .kind) p (d .params) (P.ruling d) t
       → advance there .drive .position ≡ toward p t (rate (d .params))
   tick-from t x =
       let f = same-formed there .0 (K.wf-position d w p) in
       let k = some-tick there f in
-      let a = tick-steps there (f .low-high) (k .0) (k .1) (k .2) (k .3) (k .4) (k .5) in
+      let a = tick-steps there (f .low-high) (k .0) (k .1) (k .2) (k .3) (k .4) (k .5) (k .6) (k .7) in
       let same = same-target (d .commands) (d .run .kind) p (d .params) (f .low-high) (P.ruling d) in
-      let e : k .0 ≡ t = sym (same (k .0) (k .3)) ∙ same t x in
-      ap (λ n. n .drive .position) a ∙ moved-is p (k .0) (rate (d .params)) (k .1) .1 (k .4) ∙ rw e
+      let e : k .0 ≡ t = sym (same (k .0) (k .4)) ∙ same t x in
+      ap (λ n. n .drive .position) a ∙ moved-is p (k .0) (rate (d .params)) (k .1) .1 (k .5) ∙ rw e
 
 -- ── The findings ──
 
@@ -434,5 +434,5 @@ pub refused : (a : Audit) (s : List ℕ) (y : Answer) → wellFormed (a .drive) 
 unfolding auditOf
 refused a s y n = rw n
 
-pub fresh : freshAudit ≡ record { drive = bare 0 (map (λ (l : P.Line). l .fresh) P.table); seen = 0; apart = 65535 }
+pub fresh : freshAudit ≡ record { drive = bare 0 (map (λ (l : P.Line). l .fresh) P.table) 0; seen = 0; apart = 65535 }
 fresh = λ i. record { drive = Events.fresh i; seen = 0; apart = 65535 }

@@ -1,6 +1,6 @@
--- Demand 3, document 01's paragraph on it, what an audit finds, and W-207, sentence by sentence, in a second form. A trace is a list of moments,
--- the latest first; a sentence speaks of the record `m`, which came after the trace `t`. `accepted` are the events that `Events` says; what
--- is read off a list of accepted events keeps its name of the crate history: judgement, parameters, target, position and status.
+-- Demand 3, document 01's paragraph on it, what an audit finds, and W-207, sentence by sentence, in a second form. A trace is a list of
+-- moments, the latest first; a sentence speaks of the record `m`, which came after the trace `t`. `accepted` are the events that `Events`
+-- says; what is read off a list of accepted events keeps its name of the crate history: judgement, parameters, target, position and status.
 use mathlib.Core.Path.{_≡_}
 use mathlib.Core.Logic.{_↔_}
 use mathlib.Core.Bool.{Bool, true, false}
@@ -13,8 +13,7 @@ use Rattle.answer.specs.declared.Answer.the-variants.{No, Done, Par, At, Tick, 
 use Rattle.damper.specs.declared.Drive.{Drive}
 use Rattle.damper.specs.declared.Outcome.{Outcome}
 use Rattle.damper.specs.Tick.{advance}
-use Rattle.damper.specs.Step.{stepOf}
-use Rattle.damper.specs.Carry.{Step}
+use Rattle.damper.specs.Carry.{StepOn, Step}
 use Rattle.history.specs.Readings.{judgement, parameters, targetFrom, positionIn, statusIn}
 use Rattle.history.specs.Log.{Entry}
 use Rattle.history.specs.Claim.{Moment, Trace, accepted}
@@ -303,17 +302,19 @@ pub record Rules (r t : ℕ) (d : Drive) : Type 0 where
   pub commander : P.ruling d ≡ r
   pub target : P.Target (d .commands) (d .run .kind) (d .position) (d .params) r t
 
--- event records given to a drive one after the other: the drives that the accepted ticks among them find, and the drive that they leave
-pub data TicksFind : Drive → List (List ℕ) → List Drive → Drive → Type 0 where
-  none : {d : Drive} → TicksFind d [] [] d
-  tick : {d e : Drive} {s : List ℕ} {l : List (List ℕ)} {found : List Drive} → TickOf d s → TicksFind (stepOf d s .drive) l found e
-      → TicksFind d (s ∷ l) (d ∷ found) e
-  other : {d e : Drive} {s : List ℕ} {l : List (List ℕ)} {found : List Drive} → (TickOf d s → ⊥) → TicksFind (stepOf d s .drive) l found e
-      → TicksFind d (s ∷ l) found e
+-- what a drive is given, one after the other: the drives that the ticks among it find, and the drive that is left
+pub data TicksFind {A : Type 0} (step : StepOn A) (Ticks : Drive → A → Type 0) : Drive → List A → List Drive → Drive → Type 0 where
+  none : {d : Drive} → TicksFind step Ticks d [] [] d
+  tick : {d e : Drive} {x : A} {l : List A} {found : List Drive} → Ticks d x → TicksFind step Ticks (step d x .drive) l found e
+      → TicksFind step Ticks d (x ∷ l) (d ∷ found) e
+  other : {d e : Drive} {x : A} {l : List A} {found : List Drive} → (Ticks d x → ⊥) → TicksFind step Ticks (step d x .drive) l found e
+      → TicksFind step Ticks d (x ∷ l) found e
 
--- "Rate unwritten": none of them is an accepted write of it
-pub data RateUnwritten : Drive → List (List ℕ) → Type 0 where
-  none : {d : Drive} → RateUnwritten d []
-  more : {d : Drive} {s : List ℕ} {l : List (List ℕ)}
-      → ((firstThatFits (P.turnedDown d s) ≡ 0) × (getD s 2 0 ≡ 8) × (getD s 3 0 ≡ 203) → ⊥)
-      → RateUnwritten (stepOf d s .drive) l → RateUnwritten d (s ∷ l)
+-- "Rate unwritten": none of it writes Rate
+pub data Unwritten {A : Type 0} (step : StepOn A) (Write : Drive → A → Type 0) : Drive → List A → Type 0 where
+  none : {d : Drive} → Unwritten step Write d []
+  more : {d : Drive} {x : A} {l : List A} → (Write d x → ⊥) → Unwritten step Write (step d x .drive) l → Unwritten step Write d (x ∷ l)
+
+-- of event records: an accepted write of Rate
+abbrev pub RateWrite : Drive → List ℕ → Type 0
+RateWrite d s = (firstThatFits (P.turnedDown d s) ≡ 0) × (getD s 2 0 ≡ 8) × (getD s 3 0 ≡ 203)

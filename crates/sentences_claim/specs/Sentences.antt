@@ -1,6 +1,6 @@
 -- Demand 3. Each sentence of it, of document 01's paragraph on it, each finding of the audit, and W-207 is here a theorem for every trace,
--- record or audit: on one side the product's definition, on the other the sentence as `Paper` says it a second time. What the product says by
--- splits of the trace stands there by places, by the clock or by a number, and what it says by recursion by splits.
+-- record or audit: on one side the product's definition, on the other the sentence as `Paper` says it a second time. What the product says
+-- by splits of the trace stands there by places, by the clock or by a number, and what it says by recursion by splits.
 --
 -- How to read it: crates/sentences/specs/Sentences.antt.
 --   `S.` demand 3 and the audit in their second form (Paper.antt); `P.` document 01 in its second form (crates/sentences/specs/Paper.antt);
@@ -357,7 +357,7 @@ pub audit-refused : (a : Audit) (s : List ℕ) (y : Answer) → (P.WellFormed (a
 audit-refused a s y n = Audits.refused a s y (Forms.not-formed (a .drive) n)
 
 -- a fresh audit: a fresh drive at position 0, and no report heard that another could be too near to
-pub audit-fresh : freshAudit ≡ record { drive = bare 0 (map (λ (l : P.Line). l .fresh) P.table); seen = 0; apart = 65535 }
+pub audit-fresh : freshAudit ≡ record { drive = bare 0 (map (λ (l : P.Line). l .fresh) P.table) 0; seen = 0; apart = 65535 }
 audit-fresh = Audits.fresh
 
 -- ── The audit of a recording ──
@@ -395,14 +395,15 @@ finds l a t g s y p h = Recordings.finds g s y p h
 -- ── Document 02, W-207, 'It gets there' ──
 
 -- every list of event records, given to any drive, has the drives that its ticks find, and a drive that it leaves
-pub ticks-found : (d : Drive) (l : List (List ℕ)) → (found : List Drive) × (e : Drive) × S.TicksFind d l found e
-ticks-found d l = Arrives.some-found l d
+pub ticks-found : (d : Drive) (l : List (List ℕ)) → (found : List Drive) × (e : Drive) × S.TicksFind stepOf S.TickOf d l found e
+ticks-found d l = Arrives.found-by l d
 
 -- "If one commander rules with one target for K ticks in a row, Rate unwritten, the drive stands at that target after the last of them and
 -- stays while that commander and target rule. Show it for every well-formed drive": n ticks are K or more just where 255 ≤ n × Rate
 pub settles : (d : Drive) → P.WellFormed d → d .position < 256 → (r t : ℕ)
-    → (l : List (List ℕ)) (found : List Drive) (e : Drive) → S.TicksFind d l found e → S.RateUnwritten d l
+    → (l : List (List ℕ)) (found : List Drive) (e : Drive) → S.TicksFind stepOf S.TickOf d l found e → S.Unwritten stepOf S.RateWrite d l
     → Every (S.Rules r t) found → 255 ≤ length found * P.Rate (d .params)
     → (e .position ≡ t)
-    × ((l′ : List (List ℕ)) (found′ : List Drive) (e′ : Drive) → S.TicksFind e l′ found′ e′ → Every (S.Rules r t) found′ → e′ .position ≡ t)
-settles d w b r t l found e g u xs n = Arrives.settles d (Forms.same-formed d .1 w) b r t g u xs n
+    × ((l′ : List (List ℕ)) (found′ : List Drive) (e′ : Drive) → S.TicksFind stepOf S.TickOf e l′ found′ e′ → Every (S.Rules r t) found′
+    → e′ .position ≡ t)
+settles d w b r t l found e g u xs n = Arrives.settles d (Forms.same-formed d .1 w) b r t l found e g u xs n

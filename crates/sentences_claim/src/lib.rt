@@ -1,1 +1,1 @@
-// No code: specs/ says demand 3 and the findings of the audit a second time, and proves that the definitions agree for every trace and audit.
+// No code: specs/ says demand 3, the findings of the audit and W-207 a second time, and proves that the definitions agree for every input.

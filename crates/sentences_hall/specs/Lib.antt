@@ -1,4 +1,5 @@
--- Document 02's W-201, W-203, W-204 and W-205 a second time, sentence by sentence, and that the definitions agree with it for every input.
+-- Document 02's W-201, W-203, W-204, W-205 and, in a hall, W-207 and W-208 a second time, sentence by sentence, and that the definitions
+-- agree with it for every input.
 pub mod Paper
 pub mod Contract
 pub mod Refused
@@ -7,4 +8,5 @@ pub mod Turns
 pub mod Shared
 pub mod Page
 pub mod Promised
+pub mod Bills
 pub mod Sentences

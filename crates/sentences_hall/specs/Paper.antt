@@ -1,11 +1,11 @@
--- Document 02, W-201, W-203, W-204 and W-205, sentence by sentence, in a second form. `P1` is document 01 in its second form, `S` demand 3
--- (crates/sentences_claim). From the product come its calls and a few words that have theorems of their own: on this page `hallAfter`
--- (calls-after) and `hallTicked` (sent, held, not-due, sent-answer, silent-answer, unformed-answer), on that of the crate sentences
--- `freshDrive`, `stepOf`, `advance`, `statusOf`, `toPercent` and `text`.
+-- Document 02, W-201, W-203, W-204, W-205, W-207 in a hall and the bill of W-208, sentence by sentence, in a second form. `P1` is document
+-- 01 in its second form, `S` demand 3 (crates/sentences_claim). From the product come its calls and a few words that have theorems of their
+-- own: on this page `hallAfter` (calls-after) and `hallTicked` (sent, held, not-due, sent-answer, silent-answer, unformed-answer), on that
+-- of the crate sentences `freshDrive`, `stepOf`, `advance`, `statusOf`, `toPercent` and `text`.
 use mathlib.Core.Path.{_≡_}
-use mathlib.Core.Bool.{Bool, true, not, _&&_, _||_}
+use mathlib.Core.Bool.{Bool, true, false, not, _&&_, _||_}
 use mathlib.Core.List.{List, [], _∷_, _++_}
-use Prim.Native.Nat.{ℕ, zero, suc, _+_, _*_, _/_, _%_, _^_, _≤_, _<_}
+use Prim.Native.Nat.{ℕ, zero, suc, _+_, _-_, _*_, _/_, _%_, _^_, _≤_, _<_}
 use lib.ListN.{length, getD}
 use Rattle.motion.specs.Motion.{toPercent}
 use Rattle.damper.specs.declared.Drive.{Drive}
@@ -15,9 +15,9 @@ use Rattle.damper.specs.Tick.{advance, statusOf}
 use Rattle.damper.specs.Step.{stepOf}
 use Rattle.history.specs.Claim.{Moment, Trace}
 use Rattle.line.specs.Text.{text}
-use Rattle.hall.specs.Hall.{Call, give, tick, hallAfter}
+use Rattle.hall.specs.Hall.{Call, give, tick, Given, bytes, hallTick, hallAfter}
 use Rattle.hall.specs.Quota.{hallTicked, hallStep}
-use Rattle.sentences.specs.Words.{_is_, _exceeds_, between, someOf, Condition, choose, firstThatFits}
+use Rattle.sentences.specs.Words.{_is_, _isNot_, _exceeds_, between, someOf, Condition, choose, firstThatFits}
 use Rattle.sentences.specs.Paper as P1
 use Rattle.sentences_claim.specs.Paper as S
 
@@ -176,7 +176,7 @@ pub data ShareTrace (row : List Drive) (i : ℕ) : List Call → Trace → Type 
 
 -- "17 when the lent page is shorter than 29 bytes per drive, checked after 14"
 abbrev pub ofThePage : ℕ → ℕ → List Condition
-ofThePage drives bytes = ofTheRow drives ∷ (17, 29 * drives exceeds bytes) ∷ []
+ofThePage drives room = ofTheRow drives ∷ (17, 29 * drives exceeds room) ∷ []
 
 -- a column of a number that is printed "to the right": its digit of weight `w`, or a blank where it has none
 abbrev pub digit : ℕ → ℕ → ℕ
@@ -220,3 +220,57 @@ lineOf number d =
 -- "A record that isn't well formed shows its number and minus signs filling the other fields."
 abbrev pub lineWithout : ℕ → List ℕ
 lineWithout number = digit 10 number ∷ ones number ∷ text " --- --- -------- --------\n"
+
+-- ── W-207: it gets there ──
+
+-- of what a drive of a hall is given: a tick, which "stays unticked" where the record is not well formed, and a write of Rate
+abbrev pub TickGiven : Drive → Given → Type 0
+TickGiven d (bytes s) = S.TickOf d s
+TickGiven d (hallTick sent) = P1.WellFormed d
+
+abbrev pub RateGiven : Drive → Given → Type 0
+RateGiven d (bytes s) = S.RateWrite d s
+RateGiven d (hallTick sent) = ⊥
+
+-- ── W-208: sharing the actuator bill ──
+
+-- the counts of the drives, and the sum of a list
+abbrev pub counts : List Drive → List ℕ
+counts [] = []
+counts (d ∷ row) = d .travel ∷ counts row
+
+abbrev pub sum : List ℕ → ℕ
+sum [] = 0
+sum (x ∷ xs) = x + sum xs
+
+-- the refusals of a bill, with `places` in the row that is lent for the shares
+abbrev pub ofTheBill : List Drive → ℕ → ℕ → List Condition
+ofTheBill row bill places =
+    ofTheRow (length row)
+    -- "20 when the bill exceeds 1,000,000,000 cents or the share row's length isn't the number of drives, after 14."
+    ∷ (20, bill exceeds 1000000000 || places isNot length row)
+    -- "21 when no drive has moved"
+    ∷ (21, not (someOf row (λ d. d .travel exceeds 0)))
+    ∷ []
+
+-- what the rounded-down share of the drive `i` leaves of its share by travel: both times the sum of the counts, so that they are whole
+abbrev pub remainder : ℕ → List ℕ → List ℕ → ℕ → ℕ
+remainder bill counts parts i = bill * getD counts i 0 - getD parts i 0 * sum counts
+
+-- "A call shares a bill in whole cents over the hall": a share for each drive
+pub record Shared (bill : ℕ) (counts shares : List ℕ) : Type 0 where
+  -- the rounded-down shares, and who gets one cent more
+  pub parts : List ℕ
+  pub gets : ℕ → Bool
+  pub for-each : (length parts ≡ length counts) × (length shares ≡ length counts)
+  pub one-each : (i : ℕ) → i < length counts → getD shares i 0 ≡ getD parts i 0 + choose (gets i) 1 0
+  -- "each gets the rounded-down share by travel": no more than bill × count / sum, and one cent more would be
+  pub no-more : (i : ℕ) → i < length counts → getD parts i 0 * sum counts ≤ bill * getD counts i 0
+  pub no-less : (i : ℕ) → i < length counts → bill * getD counts i 0 < (getD parts i 0 + 1) * sum counts
+  -- "and left-over cents go one each"
+  pub left-over : sum parts + howMany (length counts) gets ≡ bill
+  -- "to the largest remainders, lower number first": who gets one, `i`, against who gets none, `j`
+  pub largest : (i j : ℕ) → i < length counts → j < length counts → gets i ≡ true → gets j ≡ false
+      → remainder bill counts parts j ≤ remainder bill counts parts i
+  pub lower : (i j : ℕ) → i < length counts → j < length counts → gets i ≡ true → gets j ≡ false
+      → remainder bill counts parts j ≡ remainder bill counts parts i → i < j

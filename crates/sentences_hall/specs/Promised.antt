@@ -2,14 +2,16 @@
 use mathlib.Core.Path.{_≡_, refl, sym, ap, subst, _∙_}
 use mathlib.Core.Logic.{_↔_}
 use mathlib.Core.Bool.{Bool, true, false, false≢true}
-use mathlib.Core.List.{List, [], _∷_, _++_, map, append-nil, nil≢cons}
-use Prim.Native.Nat.{ℕ, zero, suc, _+_, _≤_, _<_}
+use mathlib.Core.List.{List, [], _∷_, _++_, map, reverse, append-nil, nil≢cons}
+use Prim.Native.Nat.{ℕ, zero, suc, _+_, _*_, _≤_, _<_, min}
 use native.Mathlib.Omega.{arith}
 use lib.Dec.{eqb}
 use lib.ListN.{length}
 use lib.Seq.{append-snoc}
 use borrow.Author.Tests.{eqb-true, ne-eqb}
 use Rattle.numbers.specs.Laws.{cases, and-left, and-right, and-intro}
+use Rattle.event.specs.declared.Event.{Event}
+use Rattle.numbers.specs.Every.{Every}
 use Rattle.answer.specs.Answer.{numberOf}
 use Rattle.answer.specs.declared.Answer.the-variants.{No, Tick, Report}
 use Rattle.damper.specs.declared.Drive.{Drive}
@@ -23,6 +25,7 @@ use Rattle.hall.specs.Hall.{Call, give, tick, callRefusal, namedIn, Given, byte
 use Rattle.hall.specs.Hall.{turned, rowAfter, answersAfter, turnsIn, hallAfter, sharedOut, share}
 use Rattle.hall.specs.Quota.{dueNow, hallTicked, hallStep, allowedCall, allowedCalls}
 use Rattle.hall.specs.Laws.{row-length}
+use Rattle.history.specs.Readings.{travelIn}
 use Rattle.history.specs.Claim.{Moment, Trace, momentOf, traceOn}
 use Rattle.shares.specs.Shares.{share-append, share-drive, share-answers}
 use Rattle.shares.specs.WaitLaws.{restart}
@@ -30,14 +33,21 @@ use Rattle.shares.specs.Bound as Bound
 use Rattle.shares.specs.Bound.{ticksGiven, dueAtEach, sentAtOne, restarted}
 use Rattle.shares.specs.Theorem.{shareTrace, share-claim}
 use Rattle.shares.specs.Waiting.{share-finds-due}
+use Rattle.shares.specs.Arrival.{tickGiven, rateGiven, hall-moves, given-settles}
+use Rattle.shares.specs.Travelled.{share-travel}
 use Rattle.sentences.specs.Words.{_is_, _exceeds_, someOf, choose, firstThatFits}
 use Rattle.sentences.specs.Paper as P1
 use Rattle.sentences.specs.Refusals.{same-refusals}
 use Rattle.sentences.specs.Forms.{same-formed, not-formed}
+use Rattle.sentences_list.specs.Paper as L
+use Rattle.sentences_list.specs.Moves.{capped}
+use Rattle.sentences_list.specs.Sentences.{history, travel}
 use Rattle.sentences_claim.specs.Paper as S
 use Rattle.sentences_claim.specs.Counts.{head-eq, tail-eq}
 use Rattle.sentences_claim.specs.Holds.{same-waiting}
 use Rattle.sentences_claim.specs.Traces.{same-hall-claim}
+use Rattle.sentences_claim.specs.Arrives as Arrives
+use Rattle.sentences_claim.specs.Arrives.{same-tick, same-write, settles-by}
 use Rattle.sentences_hall.specs.Paper as P
 use Rattle.sentences_hall.specs.Refused.{same-call, often-twice}
 use Rattle.sentences_hall.specs.Senders.{same-due-now, same-allowed-call, no-call, one-more-call}
@@ -270,6 +280,55 @@ pub promised : (row : List Drive) (cs : List Call) (i : ℕ) → i < length row 
 promised row cs i h fresh a t g =
     subst (S.Everywhere S.HallHolds) (only row i h g)
     (same-hall-claim (shareTrace row i cs) .0 (share-claim row cs i h fresh (same-may-send row cs .1 a)))
+
+-- ── W-207: it gets there ──
+tick-given : (d : Drive) (g : Given) → (tickGiven d g ≡ true) ↔ P.TickGiven d g
+tick-given d (bytes s) = same-tick d s
+tick-given d (hallTick sent) = same-formed d
+
+rate-given : (d : Drive) (g : Given) → (rateGiven d g ≡ true) ↔ P.RateGiven d g
+rate-given d (bytes s) = same-write d s
+rate-given d (hallTick sent) = (λ e. false≢true e, λ e. absurd e)
+
+abbrev Find : Drive → List Given → List Drive → Drive → Type 0
+Find = S.TicksFind hallStep P.TickGiven
+
+pub some-found : (row : List Drive) (cs : List Call) (i : ℕ) → i < length row
+    → (found : List Drive) × Find (at row i) (share (length row) i cs) found (at (hallAfter hallStep row cs) i)
+some-found row cs i h =
+    let n = length row in
+    let x =
+    Arrives.some-found hallStep tickGiven rateGiven P.TickGiven P.RateGiven tick-given rate-given (hall-moves .formed)
+    (share n i cs) (at row i) in
+    let same =
+    Arrives.same-found hallStep tickGiven rateGiven P.TickGiven P.RateGiven tick-given rate-given (hall-moves .formed) (x .2) .1 in
+    (x .0, subst (Find (at row i) (share n i cs) (x .0)) (sym same ∙ sym (share-drive hallStep row cs i h)) (x .2))
+
+module _ (row : List Drive) (cs : List Call) (i : ℕ) (h : i < length row) (w : wellFormed (at row i) ≡ true) (b : at row i .position < 256)
+  where
+    pub settles : (r t : ℕ) (found : List Drive) → (let row′ = hallAfter hallStep row cs in
+        Find (at row i) (share (length row) i cs) found (at row′ i) → S.Unwritten hallStep P.RateGiven (at row i) (share (length row) i cs)
+        → Every (S.Rules r t) found → 255 ≤ length found * P1.Rate (at row i .params)
+        → (at row′ i .position ≡ t)
+        × ((cs′ : List Call) (found′ : List Drive) → (let row″ = hallAfter hallStep row′ cs′ in
+        Find (at row′ i) (share (length row) i cs′) found′ (at row″ i) → Every (S.Rules r t) found′ → at row″ i .position ≡ t)))
+    settles r t found g u xs n =
+        let row′ = hallAfter hallStep row cs in
+        let stands =
+        settles-by hallStep tickGiven rateGiven P.TickGiven P.RateGiven tick-given rate-given (hall-moves .formed)
+        (at row i) (given-settles (at row i) w b) w
+        r t (share (length row) i cs) found (at row′ i) g u xs n in
+        (stands .0, λ cs′ found′ g′ xs′. stands .1 (share (length row) i cs′) found′ (at (hallAfter hallStep row′ cs′) i) g′ xs′)
+
+-- ── W-208: its travel ──
+pub travelled : (row : List Drive) (cs : List Call) (i : ℕ) → i < length row → P.drive row i ≡ freshDrive → P.EachMaySend row cs
+    → (h : List Event) (n : ℕ) → L.History (reverse (map bytesIn (share (length row) i cs))) h → L.Travel h n
+    → P.drive (hallAfter hallStep row cs) i .travel ≡ choose (n exceeds 4294967295) 4294967295 n
+travelled row cs i b fresh a h n w x =
+    let l = map bytesIn (share (length row) i cs) in
+    share-travel row cs i b fresh (same-may-send row cs .1 a)
+    ∙ ap (λ (y : ℕ). min y 4294967295) (ap travelIn (history l h .1 w) ∙ travel h (reverse l, w) n .1 x)
+    ∙ capped n
 
 -- ── "is sent at one of them" ──
 

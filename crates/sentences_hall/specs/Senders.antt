@@ -174,7 +174,7 @@ count-first (suc n) p =
     let rest = count-first n p in
     cases (p (suc n)) (λ e. rw e (omega arith)) (λ e. rw e rest)
 
-same-count : (n : ℕ) (p : ℕ → Bool) → countBelow n p ≡ P.howMany n p
+pub same-count : (n : ℕ) (p : ℕ → Bool) → countBelow n p ≡ P.howMany n p
 unfolding countBelow
 same-count zero p = refl
 same-count (suc n) p = count-first n p ∙ ap (λ (k : ℕ). choose (p 0) 1 0 + k) (same-count n (λ i. p (suc i)))

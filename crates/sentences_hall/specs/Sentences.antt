@@ -1,18 +1,21 @@
--- Halls. Each sentence of document 02's W-201, W-203, W-204 and W-205, as they stand together, that a definition of the product states is
--- here a theorem for every input: on one side the definition that the contracts name, on the other the sentence as `Paper` says it a
--- second time. A drive's step, its advance and its status have their page in the crate sentences.
+-- Halls. Each sentence of document 02's W-201, W-203, W-204, W-205 and, of a drive in a hall, W-207 and W-208, as they stand together, that
+-- a definition of the product states is here a theorem for every input: on one side the definition that the contracts name, on the other
+-- the sentence as `Paper` says it a second time. A drive's step, its advance and its status have their page in the crate sentences.
 --
 -- How to read it: crates/sentences/specs/Sentences.antt.
 --   `P.` document 02 in its second form (Paper.antt); `P1.` document 01 in its second form (crates/sentences/specs/Paper.antt); `S.`
---   demand 3 in its second form (crates/sentences_claim/specs/Paper.antt); `F.` the fields of a drive record; `Quota.` the product's
+--   demand 3 in its second form (crates/sentences_claim/specs/Paper.antt); `L.` what is read off a list of events in its second form
+--   (crates/sentences_list/specs/Paper.antt); `F.` the fields of a drive record; `Quota.` the product's
 --   definitions
 -- A list of calls has the first call first; a trace has the latest record first, and `m ∷ t` is the record m after the trace t.
 use mathlib.Core.Path.{_≡_, refl}
 use mathlib.Core.Logic.{_↔_}
 use mathlib.Core.Bool.{Bool, true, false, not, _&&_, _||_}
-use mathlib.Core.List.{List, [], _∷_, _++_, map}
+use mathlib.Core.List.{List, [], _∷_, _++_, map, reverse}
 use Prim.Native.Nat.{ℕ, suc, _+_, _-_, _*_, _≤_, _<_}
 use lib.ListN.{length, getD, take, drop}
+use Rattle.numbers.specs.Every.{Every}
+use Rattle.event.specs.declared.Event.{Event}
 use Rattle.answer.specs.Answer.{numberOf}
 use Rattle.answer.specs.declared.Answer.the-variants.{No, Tick, Report}
 use Rattle.damper.specs.declared.Drive.{Drive}
@@ -29,10 +32,14 @@ use Rattle.hall.specs.Quota.{dueNow, hallTicked, hallStep, allowed, allowedCall
 use Rattle.shares.specs.Theorem.{shareTrace}
 use Rattle.shift.specs.Shift.{driveLine, pageRefusal, pageAfter}
 use Rattle.shift.specs.Laws.{line-length, page-length}
+use Rattle.hall_bill.specs.HallBill.{billRefusal, sharesAfter}
+use Rattle.hall_bill.specs.Laws.{after-length, unmoved-pays-none}
 use Rattle.sentences.specs.Words.{_is_, _exceeds_, someOf, choose, firstThatFits}
 use Rattle.sentences.specs.Fields as F
 use Rattle.sentences.specs.Fields.{_≔_, _with_}
 use Rattle.sentences.specs.Paper as P1
+use Rattle.sentences.specs.Forms.{same-formed}
+use Rattle.sentences_list.specs.Paper as L
 use Rattle.sentences_claim.specs.Paper as S
 use Rattle.sentences_hall.specs.Paper as P
 use Rattle.sentences_hall.specs.Contract.{Result}
@@ -42,6 +49,7 @@ use Rattle.sentences_hall.specs.Turns as Turns
 use Rattle.sentences_hall.specs.Shared as Shared
 use Rattle.sentences_hall.specs.Page as Page
 use Rattle.sentences_hall.specs.Promised as Promised
+use Rattle.sentences_hall.specs.Bills as Bills
 
 -- ── When a call is refused itself ──
 
@@ -310,6 +318,31 @@ pub promised : (row : List Drive) (cs : List Call) (i : ℕ) → i < length row 
     → (t : Trace) → P.ShareTrace row i cs t → S.Everywhere S.HallHolds t
 promised row cs i h fresh a t g = Promised.promised row cs i h fresh a t g
 
+-- what a share gives a drive has the drives that its ticks find, and leaves the drive of the hall after the calls
+pub ticks-found : (row : List Drive) (cs : List Call) (i : ℕ) → i < length row → (let d = P.drive row i in
+    (found : List Drive) × S.TicksFind hallStep P.TickGiven d (share (length row) i cs) found (P.drive (hallAfter hallStep row cs) i))
+ticks-found row cs i h = Promised.some-found row cs i h
+
+-- W-207, of a drive in a hall: "If one commander rules with one target for K ticks in a row, Rate unwritten, the drive stands at that
+-- target after the last of them and stays while that commander and target rule", of its own share of the calls `cs`, and of `cs′` after
+-- them; `found` are the drives that its ticks find, and n ticks are K or more just where 255 ≤ n × Rate
+pub settles : (row : List Drive) (cs : List Call) (i : ℕ) → i < length row → P1.WellFormed (P.drive row i) → P.drive row i .position < 256
+    → (r t : ℕ) (found : List Drive) → (let d = P.drive row i in let n = length row in let row′ = hallAfter hallStep row cs in
+    S.TicksFind hallStep P.TickGiven d (share n i cs) found (P.drive row′ i) → S.Unwritten hallStep P.RateGiven d (share n i cs)
+    → Every (S.Rules r t) found → 255 ≤ length found * P1.Rate (d .params)
+    → (P.drive row′ i .position ≡ t)
+    × ((cs′ : List Call) (found′ : List Drive) → (let row″ = hallAfter hallStep row′ cs′ in
+    S.TicksFind hallStep P.TickGiven (P.drive row′ i) (share n i cs′) found′ (P.drive row″ i) → Every (S.Rules r t) found′
+    → P.drive row″ i .position ≡ t)))
+settles row cs i h w b r t found g u xs n = Promised.settles row cs i h (same-formed (P.drive row i) .1 w) b r t found g u xs n
+
+-- W-208: "The count equals the sum of all its moves in the list of events, up to that cap": of the events of its own share, `h` those that
+-- are accepted and `n` the sum of their moves
+pub share-travel : (row : List Drive) (cs : List Call) (i : ℕ) → i < length row → P.drive row i ≡ freshDrive → P.EachMaySend row cs
+    → (h : List Event) (n : ℕ) → L.History (reverse (map bytesIn (share (length row) i cs))) h → L.Travel h n
+    → P.drive (hallAfter hallStep row cs) i .travel ≡ choose (n exceeds 4294967295) 4294967295 n
+share-travel row cs i b fresh a h n w x = Promised.travelled row cs i b fresh a h n w x
+
 -- W-204: "A drive due at each of as many hall ticks in a row as the row has drives, and not restarted between them, is sent at one of
 -- them": of every row and list of calls on it, whatever the waits are, and refused calls and events between the ticks
 pub sent-in-time : (row : List Drive) (cs : List Call) (i : ℕ) → i < length row → P.EachMaySend row cs
@@ -371,3 +404,47 @@ module _ (row : List Drive) (page : List ℕ) where
     -- "Bytes after the last line keep their content."
     pub page-behind : drop (29 * length row) (pageAfter row page) ≡ drop (29 * length row) page
     page-behind = Page.page-behind row page ok
+
+-- ── W-208: sharing the actuator bill ──
+
+-- "20 when the bill exceeds 1,000,000,000 cents or the share row's length isn't the number of drives, after 14. 21 when no drive has moved"
+pub bill-refusal : (row : List Drive) (bill places : ℕ) → billRefusal row bill places ≡ firstThatFits (P.ofTheBill row bill places)
+bill-refusal row bill places = Bills.same-refusal row bill places
+
+module _ (row : List Drive) (bill : ℕ) (shares : List ℕ) where
+  pub bill-places : length (sharesAfter row bill shares) ≡ length shares
+  bill-places = after-length row bill shares
+
+  -- "both leave the row untouched"
+  pub bill-refused : (k : ℕ) → firstThatFits (P.ofTheBill row bill (length shares)) ≡ suc k → sharesAfter row bill shares ≡ shares
+  bill-refused k e = Bills.refused-bill row bill shares k e
+
+  module _ (ok : firstThatFits (P.ofTheBill row bill (length shares)) ≡ 0) where
+    -- "each gets the rounded-down share by travel, and left-over cents go one each to the largest remainders, lower number first", and no
+    -- other row of shares is so
+    pub bill-shared : P.Shared bill (P.counts row) (sharesAfter row bill shares)
+    bill-shared = Bills.shared row bill shares ok
+
+    pub bill-only : (us : List ℕ) → P.Shared bill (P.counts row) us → us ≡ sharesAfter row bill shares
+    bill-only us s = Bills.only row bill shares ok us s
+
+    -- "The shares add up to the bill, always."
+    pub bill-adds-up : P.sum (sharesAfter row bill shares) ≡ bill
+    bill-adds-up = Bills.adds-up row bill shares ok
+
+    -- "by travel": who has not moved pays nothing, and each pays less than a cent more or less than by travel
+    pub bill-unmoved : (i : ℕ) → i < length row → P.drive row i .travel ≡ 0 → getD (sharesAfter row bill shares) i 0 ≡ 0
+    bill-unmoved i h z = unmoved-pays-none row bill shares (Bills.accepted-by row bill shares ok) i h z
+
+    pub bill-near : (i : ℕ) → i < length row
+        → (let T = P.sum (P.counts row) in
+        let paid = getD (sharesAfter row bill shares) i 0 * T in
+        let by-travel = bill * P.drive row i .travel in
+        (paid < by-travel + T) × (by-travel < paid + T))
+    bill-near i h = Bills.near row bill shares ok i h
+
+-- it "looks only at counts"
+pub bill-counts-only : (row other : List Drive) → P.counts row ≡ P.counts other → (bill : ℕ) (shares : List ℕ)
+    → (billRefusal row bill (length shares) ≡ billRefusal other bill (length shares))
+    × (sharesAfter row bill shares ≡ sharesAfter other bill shares)
+bill-counts-only row other same bill shares = Bills.counts-alone row other same bill shares

@@ -3,13 +3,13 @@ use mathlib.Core.Path.{_≡_, refl, sym, ap, subst, _∙_}
 use mathlib.Core.Logic.{_↔_}
 use mathlib.Core.Bool.{Bool, true, false, _||_}
 use mathlib.Core.List.{List, [], _∷_}
-use Prim.Native.Nat.{ℕ, zero, suc, _+_, _/_, _%_, _^_, _≤_}
+use Prim.Native.Nat.{ℕ, zero, suc, _+_, _-_, _/_, _%_, _^_, _≤_, min}
 use native.Mathlib.Omega.{arith}
 use native.Mathlib.Nat.{div-one, div-div-eq-div-mul, pow-succ'}
-use lib.Dec.{eqb}
+use lib.Dec.{leb, ltb, eqb}
 use lib.ListN.{getD}
-use borrow.Author.Tests.{eqb-true, eqb-false, ne-eqb, not-true}
-use Rattle.numbers.specs.Numbers.{pick}
+use borrow.Author.Tests.{eqb-true, eqb-false, ne-eqb, leb-true, leb-false, ltb-true, ltb-false, not-true}
+use Rattle.numbers.specs.Numbers.{pick, distance}
 use Rattle.numbers.specs.Laws.{cases}
 use Rattle.table.specs.Table.{low, high, backupMode, rate}
 use Rattle.event.specs.declared.Event.{Event}
@@ -18,7 +18,7 @@ use Rattle.rules.specs.declared.Commands.{Commands}
 use Rattle.rules.specs.Rank as Rank
 use Rattle.rules.specs.Report.{status}
 use Rattle.history.specs.Readings as R
-use Rattle.sentences.specs.Words.{_is_, _isNot_, choose, firstThatFits}
+use Rattle.sentences.specs.Words.{_is_, _isNot_, _exceeds_, choose, firstThatFits}
 use Rattle.sentences.specs.Paper as P
 use Rattle.sentences.specs.Rules.{same-ruling, same-target}
 use Rattle.sentences.specs.Shows.{one, status-bits}
@@ -231,6 +231,49 @@ pub position-read : (h : List Event) → Fits h → (p : ℕ) → (R.positionIn 
 position-read h f p =
     let x = has-position h f in
     (λ e. subst (L.Position h) (sym (position-is f (x .1)) ∙ e) (x .1), position-is f)
+
+-- ── the travel ──
+travel-more : (e : Event) (h : List Event) → R.travelIn (e ∷ h) ≡ R.travelIn h + distance (R.positionIn h) (R.positionIn (e ∷ h))
+unfolding R.travelIn
+travel-more e h = refl
+
+travel-start : R.travelIn [] ≡ 0
+unfolding R.travelIn
+travel-start = refl
+
+pub travel-is : {h : List Event} {n : ℕ} → Fits h → L.Travel h n → R.travelIn h ≡ n
+travel-is f L.start = travel-start
+travel-is (more f g) (L.rising {e = e} {h = h} {p = p} {q = q} {n = n} k x y z l) =
+    travel-more e h ∙ rw (travel-is g x, position-is g y, position-is (more f g) z) (omega arith)
+travel-is (more f g) (L.falling {e = e} {h = h} {p = p} {q = q} {n = n} k x y z l) =
+    travel-more e h ∙ rw (travel-is g x, position-is g y, position-is (more f g) z) (omega arith)
+travel-is (more f g) (L.other {e = e} {h = h} {n = n} k x) =
+    travel-more e h ∙ rw (position-other e h k, travel-is g x) (omega arith)
+
+has-travel : (h : List Event) → Fits h → (n : ℕ) × L.Travel h n
+has-travel [] f = (0, L.start)
+has-travel (e ∷ h) (more f g) =
+    let x = has-travel h g in
+    let y = has-position h g in
+    let z = has-position (e ∷ h) (more f g) in
+    cases (eqb (e .kind) 1)
+    (λ k.
+    cases (leb (y .0) (z .0))
+    (λ l. (x .0 + (z .0 - y .0), L.rising (eqb-true _ _ k) (x .1) (y .1) (z .1) (leb-true (y .0) (z .0) l)))
+    (λ l. let b = leb-false (y .0) (z .0) l in
+    (x .0 + (y .0 - z .0), L.falling (eqb-true _ _ k) (x .1) (y .1) (z .1) (omega arith))))
+    (λ k. (x .0, L.other (eqb-false _ _ k) (x .1)))
+
+pub travel-read : (h : List Event) → Fits h → (n : ℕ) → (R.travelIn h ≡ n) ↔ L.Travel h n
+travel-read h f n =
+    let x = has-travel h f in
+    (λ e. subst (L.Travel h) (sym (travel-is f (x .1)) ∙ e) (x .1), travel-is f)
+
+pub capped : (n : ℕ) → min n 4294967295 ≡ choose (n exceeds 4294967295) 4294967295 n
+capped n =
+    cases (ltb 4294967295 n)
+    (λ e. let h = ltb-true 4294967295 n e in rw e (omega arith))
+    (λ e. let h = ltb-false 4294967295 n e in rw e (omega arith))
 
 -- ── the status ──
 status-path : {c c′ : Commands} {r r′ : ℕ} {b b′ : Bool} → c ≡ c′ → r ≡ r′ → b ≡ b′ → status c r b ≡ status c′ r′ b′

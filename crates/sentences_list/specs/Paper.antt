@@ -6,7 +6,7 @@ use mathlib.Core.Path.{_≡_}
 use mathlib.Core.Logic.{_↔_}
 use mathlib.Core.Bool.{Bool, true, false}
 use mathlib.Core.List.{List, [], _∷_, _++_, map}
-use Prim.Native.Nat.{ℕ, suc, _+_, _*_, _/_, _%_, _^_, _≤_, _<_}
+use Prim.Native.Nat.{ℕ, suc, _+_, _-_, _*_, _/_, _%_, _^_, _≤_, _<_}
 use lib.ListN.{length, getD}
 use Rattle.event.specs.declared.Event.{Event}
 use Rattle.motion.specs.Motion.{toPosition, runTicks}
@@ -187,6 +187,15 @@ pub data Position : List Event → ℕ → Type 0 where
   tick : {e : Event} {h : List Event} {p t n : ℕ} {q : List ℕ} → e .kind ≡ 1 → Position h p → Target h p t → Parameters h q
       → P.Moved p t (P.Rate q) n → Position (e ∷ h) n
   other : {e : Event} {h : List Event} {p : ℕ} → (e .kind ≡ 1 → ⊥) → Position h p → Position (e ∷ h) p
+
+-- document 02, W-208: "the sum of all its moves in the list of events": a tick adds the way from the position before it to the one after it
+pub data Travel : List Event → ℕ → Type 0 where
+  start : Travel [] 0
+  rising : {e : Event} {h : List Event} {p q n : ℕ} → e .kind ≡ 1 → Travel h n → Position h p → Position (e ∷ h) q → p ≤ q
+      → Travel (e ∷ h) (n + (q - p))
+  falling : {e : Event} {h : List Event} {p q n : ℕ} → e .kind ≡ 1 → Travel h n → Position h p → Position (e ∷ h) q → q ≤ p
+      → Travel (e ∷ h) (n + (p - q))
+  other : {e : Event} {h : List Event} {n : ℕ} → (e .kind ≡ 1 → ⊥) → Travel h n → Travel (e ∷ h) n
 
 -- the number whose bits are the status bits
 abbrev pub Bits : Commands → ℕ → Bool → ℕ → Type 0

@@ -1,25 +1,30 @@
--- The list of events: document 01, 'Who commands', "Read off the list of events ..", each sentence a theorem for every list. On one side
--- the product's definition, on the other the sentence as `Paper` says it a second time. A `↔` fixes the definition: what it gives fits the
--- sentence, and nothing else does. Where there is an equation instead, `reading` and `has-log` say that something fits.
+-- The list of events: document 01, 'Who commands', "Read off the list of events ..", and W-208's sum of all moves, each sentence a theorem
+-- for every list. On one side the product's definition, on the other the sentence as `Paper` says it a second time. A `↔` fixes the
+-- definition: what it gives fits the sentence, and nothing else does. Where there is an equation instead, `reading` and `has-log` say that
+-- something fits.
 --
 -- How to read it: crates/sentences/specs/Sentences.antt.
 --   `L.` these sentences in their second form (Paper.antt); `P.` document 01 in its second form (crates/sentences/specs/Paper.antt); `R.`
 --   and `C.` the product's definitions, of what is read off a list of events and of the claim
 -- Histories and traces have the latest first: `e ∷ h` is the event e after the history h, `m ∷ t` the record m after the trace t.
-use mathlib.Core.Path.{_≡_, subst}
+use mathlib.Core.Path.{_≡_, ap, subst, _∙_}
 use mathlib.Core.Logic.{_↔_}
 use mathlib.Core.Bool.{Bool}
 use mathlib.Core.List.{List, [], _∷_, _++_, map, reverse}
-use Prim.Native.Nat.{ℕ, _/_, _%_, _^_}
+use Prim.Native.Nat.{ℕ, _/_, _%_, _^_, min}
 use lib.ListN.{length}
 use Rattle.table.specs.declared.Row.{Row}
 use Rattle.event.specs.declared.Event.{Event}
 use Rattle.rules.specs.declared.Commands.{Commands}
 use Rattle.rules.specs.Rank.{Source}
+use Rattle.damper.specs.Record.{freshDrive}
+use Rattle.damper.specs.Step.{stepOf}
+use Rattle.damper.specs.Carry.{outcomes, driveAfter}
 use Rattle.history.specs.Readings as R
 use Rattle.history.specs.Log.{Entry, logIn}
 use Rattle.history.specs.Claim as C
-use Rattle.sentences.specs.Words.{firstThatFits}
+use Rattle.history.specs.Travel.{travel-whole}
+use Rattle.sentences.specs.Words.{_exceeds_, choose, firstThatFits}
 use Rattle.sentences.specs.Paper as P
 use Rattle.sentences_list.specs.Paper as L
 use Rattle.sentences_list.specs.Latest as Latest
@@ -150,6 +155,18 @@ target t h k a p x = Moves.target-read t h k (accepted-fit h a) p x
 -- "position starts at 0, a tick changes it by step 2 below with the target and Rate read here, and no other event does"
 pub position : (h : List Event) → L.Accepted h → (p : ℕ) → (R.positionIn h ≡ p) ↔ L.Position h p
 position h a p = Moves.position-read h (accepted-fits h a) p
+
+-- Document 02, W-208: "the sum of all its moves in the list of events"
+pub travel : (h : List Event) → L.Accepted h → (n : ℕ) → (R.travelIn h ≡ n) ↔ L.Travel h n
+travel h a n = Moves.travel-read h (accepted-fits h a) n
+
+-- "The count equals the sum .., up to that cap": of a drive that was fresh at first, after every list of records
+pub travel-count : (l : List (List ℕ)) (h : List Event) (n : ℕ) → L.History (reverse l) h → L.Travel h n
+    → driveAfter freshDrive (outcomes stepOf freshDrive l) .travel ≡ choose (n exceeds 4294967295) 4294967295 n
+travel-count l h n w x =
+    travel-whole l
+    ∙ ap (λ (y : ℕ). min y 4294967295) (ap R.travelIn (history l h .1 w) ∙ travel h (reverse l, w) n .1 x)
+    ∙ Moves.capped n
 
 -- "So is the status that a tick leaves, in the layout below; for it the present tick counts among those a run has passed."
 pub status-of-tick : (t : Event) (h : List Event) → t .kind ≡ 1 → L.Accepted h → (s : ℕ) → (R.statusIn (t ∷ h) ≡ s) ↔ L.TickStatus h s

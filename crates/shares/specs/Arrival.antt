@@ -53,7 +53,7 @@ unfolding hallTicked tickWith
 ticked-params true d w = rw w (advance-params d)
 ticked-params false d w = rw w (advance-params d)
 
-hall-moves : Moves hallStep tickGiven rateGiven
+pub hall-moves : Moves hallStep tickGiven rateGiven
 hall-moves = record { formed = wf; position = pos; kept = same }
   where
     wf : (d : Drive) (g : Given) → wellFormed d ≡ true → wellFormed (hallStep d g .drive) ≡ true

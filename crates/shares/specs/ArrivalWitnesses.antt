@@ -30,7 +30,7 @@ computation = tt
 
 -- a closed drive with a Rate of 100, whose K is 3, that is due at every tick: MinRepTime and RepPer are 1
 abbrev alwaysDue : Drive
-alwaysDue = drive 0 (set (set (set freshValues 3 1) 8 1) 9 100) noCommands 0 noRun 0 (last 1 0 32) 0
+alwaysDue = drive 0 (set (set (set freshValues 3 1) 8 1) 9 100) noCommands 0 noRun 0 (last 1 0 32) 0 0
 
 abbrev two : List Drive
 two = alwaysDue ∷ alwaysDue ∷ []

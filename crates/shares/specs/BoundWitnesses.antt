@@ -37,7 +37,7 @@ dueAt d (hallTick sent ∷ gs) = dueNow d ∷ dueAt (hallStep d (hallTick sent) 
 
 -- a drive closed and reported so, with a MinRepTime of 1, a RepPer and a wait: due at every tick where RepPer is 1
 abbrev closed : ℕ → ℕ → Drive
-closed period wait = drive 0 (set (set freshValues 3 1) 8 period) noCommands 0 noRun 0 (last 1 0 32) wait
+closed period wait = drive 0 (set (set freshValues 3 1) 8 period) noCommands 0 noRun 0 (last 1 0 32) wait 0
 
 abbrev eager : ℕ → List Drive
 eager wait = closed 1 wait ∷ closed 1 wait ∷ closed 1 wait ∷ []
@@ -97,7 +97,8 @@ pub restart-between : (allowedCalls (eager 0) between ≡ true)
 unfolding computation
 restart-between = (refl, refl, refl, refl, refl)
 
--- A drive at place 2 that is due at every second tick only, its hand being on at these, is never sent, here of six: not due clears its wait.
+-- A drive at place 2 that is due at every second tick only, its hand being on at these, is never sent, here of six: not due clears its
+-- wait.
 abbrev often : List Drive
 often = closed 1 0 ∷ closed 1 0 ∷ closed 900 0 ∷ []
 

@@ -1,7 +1,8 @@
 -- A hall's calls seen from each of its drives: its own share of them decides its record and its answers, the sentences of demand 3 hold of
--- it, of that about waiting what the quota leaves, a host reads its reports off the numbers of the hall ticks, the shift page shows what the
--- share says, and a drive that stays due and is not restarted meanwhile is sent within as many hall ticks as the hall has drives. No call
--- gives a drive anything twice. A drive arrives at the target that rules over its share, and stays there.
+-- it, of that about waiting what the quota leaves, a host reads its reports off the numbers of the hall ticks, the shift page shows what
+-- the share says, and a drive that stays due and is not restarted meanwhile is sent within as many hall ticks as the hall has drives. No
+-- call gives a drive anything twice. A drive arrives at the target that rules over its share, and stays there. It has travelled as far as
+-- its share makes it move, and the bill is shared by that.
 pub mod Shares
 pub mod Once
 pub mod WaitLaws
@@ -16,4 +17,6 @@ pub mod HostLog
 pub mod PageRead
 pub mod Arrival
 pub mod ArrivalWitnesses
+pub mod Travelled
+pub mod BillRead
 pub mod Witnesses

@@ -29,7 +29,7 @@ unfolding driveLine
 good-line number d t g = rw (g .wf, g .position, good-ruling d t g, good-status d t g) refl
 
 -- the accepted events of a drive's trace are those of its share, a hall tick being a tick
-share-accepted : (row : List Drive) (cs : List Call) (i : ℕ) → i < length row
+pub share-accepted : (row : List Drive) (cs : List Call) (i : ℕ) → i < length row
     → accepted (shareTrace row i cs) ≡ historyOf (map bytesIn (share (length row) i cs))
 unfolding accepted
 share-accepted row cs i h =

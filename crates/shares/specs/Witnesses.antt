@@ -25,7 +25,7 @@ use Rattle.hall.specs.Quota.{hallStep, allowedCalls}
 use Rattle.line.specs.Text.{text}
 use Rattle.line.specs.Line.{decimal, digitsWithin}
 use Rattle.shift.specs.Shift.{right, left, binary, driveLine, linesFrom, pageRefusal, pageAfter}
-use Rattle.history.specs.Readings.{positionIn, statusIn, judgement, historyOf}
+use Rattle.history.specs.Readings.{positionIn, travelIn, statusIn, judgement, historyOf}
 use Rattle.history.specs.Closed.{readings}
 use Rattle.history.specs.Log.{Entry, entry}
 use Rattle.history.specs.Claim.{reportsFrom}
@@ -54,11 +54,11 @@ everyTick = 0x5a ∷ 0xc3 ∷ 8 ∷ 117 ∷ 0 ∷ 1 ∷ []
 
 -- forcing 4, which no event sets
 abbrev broken : Drive
-broken = drive 0 freshValues (interlocked noCommands 0 4) 0 noRun 0 (last 0 0 0) 0
+broken = drive 0 freshValues (interlocked noCommands 0 4) 0 noRun 0 (last 0 0 0) 0 0
 
 -- at position 200, with Rate 128, so that a run takes two ticks
 abbrev opened : Drive
-opened = drive 200 (set freshValues 9 128) noCommands 0 noRun 0 (last 0 0 0) 0
+opened = drive 200 (set freshValues 9 128) noCommands 0 noRun 0 (last 0 0 0) 0 0
 
 abbrev hall : List Drive
 hall = freshDrive ∷ broken ∷ opened ∷ []
@@ -254,6 +254,13 @@ notedAnyhow row i (l ∷ ls) =
 pub refused-tick-read : drop 8 (notedAnyhow hall 0 lent) ≡ sent 5 0 ∷ sent 7 1 ∷ sent 7 1 ∷ silent ∷ sent 15 0 ∷ []
 unfolding computation
 refused-tick-read = refl
+
+-- How far the drives have travelled (W-208): the fresh one as far as its share makes it move, a move with a report that is held among them;
+-- the one that was open, from 200 to 0 and then to 128.
+pub travelled : (map (λ (d : Drive). d .travel) (hallAfter hallStep hall calls) ≡ 15 ∷ 0 ∷ 328 ∷ [])
+    × (travelIn (historyOf (map bytesIn (share 3 0 calls))) ≡ 15)
+unfolding computation readings
+travelled = (refl, refl)
 
 -- The shift page afterwards, with a byte behind its lines; and the line of the fresh drive, read off its share.
 pub page : pageAfter (hallAfter hallStep hall calls) (replicate 88 9)

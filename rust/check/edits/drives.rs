@@ -14,6 +14,7 @@ const OVERDUE: &str = "self.since >= self.params.get(Param::RepPer)";
 const IN_TIME: &str = "age <= self.params.get(Param::Timeout)";
 const CHANGE: &str = "100 * distance >= 255 * u32::from(self.params.get(Param::ActPosCov))";
 const TO_POSITION: &str = "((255 * u16::from(percent) + 49) / 100) as u8";
+const COUNT: &str = "self.travel.saturating_add(self.position.abs_diff(before).into())";
 const BACKUP: &str = "percent_to_position(self.params.byte(Param::BackupValue))";
 
 pub const EDITS: &[Edit] = &[
@@ -49,6 +50,20 @@ pub const EDITS: &[Edit] = &[
         &[(CHANGE, "distance >= u32::from(percent_to_position(self.params.byte(Param::ActPosCov)))")],
     ),
     edit("CountsWrap", &[("count.saturating_add(1)", "count.wrapping_add(1)")]),
+    edit("TravelWraps", &[("self.travel.saturating_add(", "self.travel.wrapping_add(")]),
+    edit("TravelStopsAt65535", &[(COUNT, "self.travel.saturating_add(way.into()).min(65_535)")]),
+    edit(
+        "TravelByRate",
+        &[(
+            COUNT,
+            "self.travel.saturating_add(if way > 0 { self.params.get(Param::Rate).into() } else { 0 })",
+        )],
+    ),
+    edit("TravelByDistance", &[(COUNT, "self.travel.saturating_add(before.abs_diff(target).into())")]),
+    edit(
+        "NetTravel",
+        &[(COUNT, "self.travel.saturating_add_signed(i32::from(self.position) - i32::from(before))")],
+    ),
     edit("LowAboveHigh", &[("if params.get(Param::Low) > params.get(Param::High) {", "if false {")]),
     edit("AnyFlagSet", &[("1 => Some(true)", "1.. => Some(true)")]),
 ];

@@ -25,6 +25,8 @@ const HALLS: usize = 64;
 /// Times that each is called before all begin anew, and how often they do: by ticks alone they come to rest.
 const CALLS: usize = 16;
 const ANEW: usize = 16;
+/// Cents of a bill, of which most leave cents over.
+const BILL: u64 = 999_999_937;
 
 /// What a benchmark replays, by name: `mixed`, or ticks alone.
 fn sample(what: &str, n: usize) -> Vec<u8> {
@@ -35,10 +37,11 @@ fn sample(what: &str, n: usize) -> Vec<u8> {
 }
 
 /// For a count of instructions, by `proved`, `model`, `plain` or none of them: a replay of n records; or, as
-/// `hall`, `backup`, `list` or `page`, hall ticks with quota 64, of any drives or of those that BackupValue
-/// rules, event calls or shift pages for n drives, 64 in a call.
+/// `hall`, `backup`, `list`, `page` or `bill`, hall ticks with quota 64, of any drives or of those that
+/// BackupValue rules, event calls, shift pages or bills for n drives, 64 in a call. Of `plain` there are no
+/// bills.
 pub fn spend(who: &str, what: &str, n: usize) {
-    if matches!(what, "hall" | "backup" | "list" | "page") {
+    if matches!(what, "hall" | "backup" | "list" | "page" | "bill") {
         return spend_on_halls(who, what, n);
     }
     let bytes = sample(what, n);
@@ -62,7 +65,7 @@ fn spend_on_halls(who: &str, what: &str, n: usize) {
     let hall: &dyn Hall = match who {
         "proved" => &Proved,
         "model" => &HallModel,
-        "plain" => &Plain,
+        "plain" if what != "bill" => &Plain,
         _ => return,
     };
     for i in 0..n / HALL_MOST {
@@ -70,6 +73,7 @@ fn spend_on_halls(who: &str, what: &str, n: usize) {
         match what {
             "hall" | "backup" => hall.tick(row, HALL_MOST as u32, &mut numbers),
             "page" => hall.page(row, &mut page),
+            "bill" => hall.bill(row, BILL - i as u64 % 1_000, &mut numbers),
             _ => hall.event(row, &list, &events[i % events.len()], &mut answers),
         };
     }
@@ -288,6 +292,25 @@ fn halls() {
     }
 }
 
+/// Bills for halls of some sizes, by the proved hall and by the second implementation, which sorts.
+fn bills() {
+    let rows = lived(HALLS);
+    for size in [4, 16, HALL_MOST] {
+        let all = |hall: &dyn Hall, shares: &mut [u32]| {
+            for count in 0..(CALLS * ANEW) as u64 {
+                for (row, shares) in black_box(&rows).chunks(size).zip(shares.chunks_mut(size)) {
+                    assert!(hall.bill(row, BILL - count, shares) == 0);
+                }
+            }
+        };
+        let (mut proved, mut model) = (vec![0; rows.len()], vec![0; rows.len()]);
+        let calls = rows.len() / size * CALLS * ANEW;
+        Rounds::of(calls, [&mut || all(&Proved, &mut proved), &mut || all(&HallModel, &mut model)])
+            .show(&format!("bill for {size}"), "call");
+        assert!(proved == model, "the bills differ");
+    }
+}
+
 /// The programs: the proved one at `program`, and this one as `drive`.
 fn programs(program: &Path) -> io::Result<()> {
     let file = std::env::temp_dir().join(format!("damper-records-{}", std::process::id()));
@@ -315,5 +338,6 @@ pub fn run(program: &Path) -> io::Result<()> {
         singles(what);
     }
     halls();
+    bills();
     programs(program)
 }

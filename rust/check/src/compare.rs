@@ -1,4 +1,5 @@
-//! The runs that set a `Subject` against the model, against demand 3 and against W-207.
+//! The runs that set a `Subject` against the model, against demand 3, against W-207 and against W-208's
+//! count.
 
 use crate::cases::{self, Case, CASES};
 use crate::check::{Breach, Checker, Clause};
@@ -10,6 +11,7 @@ use crate::model::Model;
 use crate::settle::cover::Watch;
 use crate::settle::{Given, Turn};
 use crate::subject::Subject;
+use crate::travel::Moves;
 use crate::wordings::{self, Wording};
 use damper::{Answer, Drive};
 use std::fmt::{self, Write};
@@ -39,15 +41,19 @@ pub enum Ask {
     Demand3,
     /// W-207.
     Settling,
+    /// W-208's count, by the moves.
+    Travel,
     All,
 }
 
-/// A subject beside the model, both fresh at first, with the checker of demand 3 and the claim of W-207.
+/// A subject beside the model, both fresh at first, with the checker of demand 3, the claim of W-207 and the
+/// moves.
 struct Pair<'s, S: Subject + ?Sized> {
     subject: &'s S,
     ask: Ask,
     checker: Checker,
     watch: Watch,
+    moves: Moves,
     model: Drive,
     tested: Drive,
 }
@@ -59,12 +65,15 @@ struct Failure {
     breach: Breach,
     /// It does not get there, or does not stay.
     unsettled: bool,
+    /// Its count is not the sum of its moves.
+    miscounted: bool,
 }
 
 impl<'s, S: Subject + ?Sized> Pair<'s, S> {
     fn new(subject: &'s S, ask: Ask) -> Self {
         let (checker, watch) = (Checker::from_fresh(), Watch::default());
-        Pair { subject, ask, checker, watch, model: Model.fresh(), tested: subject.fresh() }
+        let (model, tested) = (Model.fresh(), subject.fresh());
+        Pair { subject, ask, checker, watch, moves: Moves::FRESH, model, tested }
     }
 
     #[inline]
@@ -86,10 +95,11 @@ impl<'s, S: Subject + ?Sized> Pair<'s, S> {
             let turn = Turn { before: &self.tested, given: Given::Record(bytes), refused, after: &tested.1 };
             unsettled = self.watch.turn(&turn, cover.map(|cover| &mut cover.settling));
         }
+        let miscounted = asked(Ask::Travel) && self.moves.miscounted(&tested.1);
         self.model = model.1;
         self.tested = tested.1;
-        if differs || unsettled || !breach.none() {
-            return Err(Failure { model, tested, breach, unsettled });
+        if differs || unsettled || miscounted || !breach.none() {
+            return Err(Failure { model, tested, breach, unsettled, miscounted });
         }
         Ok(())
     }
@@ -221,6 +231,9 @@ fn both_sides(count: usize, failure: &Failure) -> String {
     if failure.unsettled {
         text += ", W-207 fails";
     }
+    if failure.miscounted {
+        text += ", W-208's count fails";
+    }
     let _ = write!(text, "\n  model:   {}\n           {:?}", model.0, model.1);
     let _ = write!(text, "\n  subject: {}\n           {:?}", tested.0, tested.1);
     text
@@ -233,8 +246,8 @@ pub(crate) fn hex(bytes: &[u8]) -> String {
     bytes.iter().map(|byte| format!("{byte:02X}")).collect()
 }
 
-/// Single steps on records of any origin. Only origins and refusals by 1 are counted: all else has to be
-/// met on lists from fresh.
+/// Single steps on records of any origin. Only origins, refusals by 1 and what becomes of travel are counted:
+/// all else has to be met on lists from fresh.
 pub fn singles<S: Subject + ?Sized>(
     subject: &S,
     seed: u64,
@@ -248,11 +261,12 @@ pub fn singles<S: Subject + ?Sized>(
         let well_formed = (Model.well_formed(&record), subject.well_formed(&record));
         let model = Model.step(&record, bytes.as_slice());
         let tested = subject.step(&record, bytes.as_slice());
-        cover.record(origin, &record, &model.0);
+        cover.record(origin, &record, bytes.as_slice(), &model.0, &model.1);
         let same = model == tested && well_formed.0 == well_formed.1;
         let kept = !well_formed.0 || Model.well_formed(&model.1);
         if !same || !kept {
-            let failure = Failure { model, tested, breach: Breach::default(), unsettled: false };
+            let (breach, miscounted) = (Breach::default(), Moves::of(&record).miscounted(&tested.1));
+            let failure = Failure { model, tested, breach, unsettled: false, miscounted };
             let text = format!(
                 "step {done}, event {}\n  on {record:?}\n  well formed: model {}, subject {}{}",
                 hex(bytes.as_slice()),

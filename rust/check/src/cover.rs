@@ -7,6 +7,7 @@ use crate::percents::Percents;
 use crate::settle::cover::SettleCover;
 use crate::subject::Subject;
 use crate::table::Param;
+use crate::travel::TravelCover;
 use damper::{Answer, Drive, Rank, Refusal, Status};
 
 const RUN_ENDS: [&str; 5] = ["its ticks passed", "fault", "forcing", "restart", "new calibration"];
@@ -36,6 +37,7 @@ pub struct Cover {
     /// Records refused by 1 that the flag alone, a byte above 1, keeps from being well formed.
     flags: [u64; 5],
     pub settling: SettleCover,
+    travel: TravelCover,
 }
 
 impl Cover {
@@ -43,9 +45,10 @@ impl Cover {
         self.refusals[refusal.number() as usize] += 1;
     }
 
-    /// A record out of any list, and the answer to an event there.
-    pub fn record(&mut self, origin: Origin, record: &Drive, answer: &Answer) {
+    /// A record out of any list, an event there, the answer and the record after it.
+    pub fn record(&mut self, origin: Origin, record: &Drive, bytes: &[u8], answer: &Answer, after: &Drive) {
         self.origins[origin as usize] += 1;
+        self.travel.event(record, bytes, answer, after);
         if *answer == Answer::Refused(Refusal::Record) {
             self.refusal(Refusal::Record);
             for flag in Flag::ALL {
@@ -58,6 +61,7 @@ impl Cover {
     }
 
     pub fn event(&mut self, before: &Drive, bytes: &[u8], answer: &Answer, after: &Drive) {
+        self.travel.event(before, bytes, answer, after);
         match *answer {
             Answer::Refused(refusal) => self.refusal(refusal),
             Answer::Tick { rank, report, .. } => self.tick(before, rank, report, after),
@@ -116,7 +120,7 @@ impl Cover {
         let origins = Origin::ALL.map(|o| (format!("record: {o:?}"), self.origins[o as usize]));
         let flags = Flag::ALL.map(|f| (format!("refused for the flag {f:?}"), self.flags[f as usize]));
         let events = refusals.chain(ranks).chain(ends).chain(revived).chain(reasons);
-        let settling = self.settling.counts(false);
+        let settling = self.settling.counts(false).into_iter().chain(self.travel.counts("in steps"));
         events.chain(percents).chain(origins).chain(flags).chain(settling).collect()
     }
 }

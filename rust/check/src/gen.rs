@@ -11,7 +11,8 @@ use crate::model::{percent_to_position, Model};
 use crate::percents::ruled_by_backup_value;
 use crate::subject::Subject;
 use crate::table::{Param, TABLE};
-use damper::{Drive, Last};
+use crate::travel::CAP;
+use damper::{Drive, Last, DRIVE_BYTES};
 use std::array;
 
 /// Splitmix64.
@@ -84,7 +85,7 @@ pub enum Origin {
     Broken,
     /// Well formed but for one flag, any byte.
     AnyFlag,
-    /// Well formed but for one byte of the 46, any.
+    /// Well formed but for one byte of the record, any.
     AnyByte,
     RandomBytes,
 }
@@ -447,6 +448,7 @@ impl Gen {
             r.last = Last { reported: 1, position: self.last_position(&r), status: self.last_status(&r) };
         }
         r.wait = self.wait();
+        r.travel = self.travel();
         r
     }
 
@@ -465,6 +467,19 @@ impl Gen {
             3..5 => self.rng.between(1, 3),
             5 | 6 => u16::MAX - self.rng.between(0, 2),
             _ => self.rng.draw() as u16,
+        }
+    }
+
+    /// Nothing, little, about 65,535, mostly about a move below 4,294,967,295, that, or anything.
+    pub fn travel(&mut self) -> u32 {
+        match self.rng.below(8) {
+            0 => 0,
+            1 => self.rng.below(1_000),
+            2 => 65_535 + self.rng.below(256) - self.rng.below(256),
+            3 => CAP - self.rng.below(256),
+            4 | 5 => CAP - self.rng.below(8),
+            6 => CAP,
+            _ => self.rng.draw() as u32,
         }
     }
 
@@ -522,7 +537,7 @@ impl Gen {
             }
             Origin::AnyByte => {
                 let mut bytes = self.record().to_bytes();
-                bytes[self.rng.below(46) as usize] = self.rng.byte();
+                bytes[self.rng.below(DRIVE_BYTES as u32) as usize] = self.rng.byte();
                 Drive::from_bytes(bytes)
             }
             Origin::RandomBytes => self.random_bytes(),

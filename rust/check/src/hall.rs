@@ -1,7 +1,8 @@
 //! The hall of document 02's W-201 with the quota of its W-204: drives in one row, worked on where they
-//! stand, each by the drive of `model`. The shift page is its W-203, and its W-205 refuses a list
-//! that names a drive twice.
+//! stand, each by the drive of `model`. The shift page is its W-203, its W-205 refuses a list that names a
+//! drive twice, and the bill of its W-208 is in `bill`.
 
+use crate::bill::{judge_bill, Portions};
 use crate::event::Event;
 use crate::model::{position_to_percent, Model};
 use crate::subject::Hall;
@@ -9,7 +10,7 @@ use damper::{Answer, Drive, Rank, Status};
 use std::io::{self, Write};
 
 /// The most drives in a row, the most entries in a list, and the most reports of a hall tick.
-const MOST: usize = 64;
+pub(crate) const MOST: usize = 64;
 
 /// Bytes of a line: "exactly 28 columns and a line feed".
 pub const LINE: usize = 29;
@@ -53,6 +54,18 @@ impl Hall for HallModel {
         for ((number, drive), line) in row.iter().enumerate().zip(page.chunks_exact_mut(LINE)) {
             print_line(line, number, drive).expect("a line has 29 bytes");
         }
+        0
+    }
+
+    /// W-208: "A call shares a bill in whole cents over the hall", and "fills a lent row of shares".
+    fn bill(&self, row: &[Drive], bill: u64, shares: &mut [u32]) -> u8 {
+        let refusal = judge_bill(row, bill, shares.len());
+        if refusal != 0 {
+            return refusal; // "both leave the row untouched"
+        }
+        let mut portions = Portions::rounded_down(row, bill);
+        portions.round_off();
+        portions.fill(shares);
         0
     }
 }
@@ -232,7 +245,7 @@ pub(crate) fn judge_page(drives: usize, bytes: usize) -> u8 {
 }
 
 /// "14 when the row holds no drive or over 64."
-fn outside_1_to_64(drives: usize) -> bool {
+pub(crate) fn outside_1_to_64(drives: usize) -> bool {
     drives == 0 || drives > MOST
 }
 

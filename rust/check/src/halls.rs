@@ -1,9 +1,9 @@
 //! Halls against the second implementation, over lists of calls: after each call its number, the whole row
-//! and the whole answer row or page are compared, with places before and behind each that were not lent. Which due
-//! drives a hall tick sends is free in part: those that the hall has sent have to be an allowed choice, and
-//! all else is compared with the second implementation's tick that sends just these. What a drive that was
-//! fresh at first got of the calls, its share, goes through the checker of demand 3, and every drive has to
-//! get its turn.
+//! and the whole answer row or page are compared, with places before and behind each that were not lent.
+//! Which due drives a hall tick sends is free in part: those that the hall has sent have to be an allowed
+//! choice, and all else is compared with the second implementation's tick that sends just these. What a drive
+//! that was fresh at first got of the calls, its share, goes through the checker of demand 3, every drive has
+//! to get its turn, and the count of every drive has to be that of its moves.
 
 pub mod cover;
 pub mod gen;
@@ -17,8 +17,9 @@ use crate::model::Model;
 use crate::settle::cover::Watch;
 use crate::settle::{self, Given};
 use crate::subject::{Hall, Subject};
+use crate::travel::Moves;
 use cover::HallCover;
-use damper::{Drive, HallAnswer, HallTick};
+use damper::{Drive, HallAnswer, HallTick, DRIVE_BYTES};
 use gen::{Call, HallGen};
 use std::fmt::Debug;
 use std::ops::Range;
@@ -36,6 +37,8 @@ struct Pair<'h, H: Hall + ?Sized> {
     turns: Vec<Turn>,
     /// Of every drive, whether it gets there: W-207.
     watches: Vec<Watch>,
+    /// Of every drive: W-208.
+    moves: Vec<Moves>,
 }
 
 /// What a drive that was fresh at first got of the calls. A number that stands for nothing is left to the
@@ -86,7 +89,7 @@ fn odd<T>(places: usize, content: impl Fn(u32) -> T) -> Vec<T> {
 }
 
 /// The places of such a row that are lent.
-fn lent(places: usize) -> Range<usize> {
+pub(crate) fn lent(places: usize) -> Range<usize> {
     1..places + 1
 }
 
@@ -97,12 +100,13 @@ fn sent(numbers: &[u32]) -> Drives {
 }
 
 /// The first answer that differs.
-fn answers_differ<T: PartialEq + Debug>(model: &[T], tested: &[T]) -> Option<String> {
+pub(crate) fn answers_differ<T: PartialEq + Debug>(model: &[T], tested: &[T]) -> Option<String> {
     let i = (0..model.len()).find(|&i| model[i] != tested[i])?;
     Some(format!("\n  answer {}: model {:?}, subject {:?}", i as i64 - 1, model[i], tested[i]))
 }
 
-/// The first line that differs, and its drive; before the first and behind the last are bytes that no call writes.
+/// The first line that differs, and its drive; before the first and behind the last are bytes that no call
+/// writes.
 fn lines_differ(row: &[Drive], model: &[u8], tested: &[u8]) -> Option<String> {
     if model == tested {
         return None;
@@ -118,7 +122,7 @@ fn lines_differ(row: &[Drive], model: &[u8], tested: &[u8]) -> Option<String> {
 
 impl<'h, H: Hall + ?Sized> Pair<'h, H> {
     fn new(hall: &'h H, ask: Ask, row: &[Drive]) -> Self {
-        let odd = Drive::from_bytes([0xEE; 46]);
+        let odd = Drive::from_bytes([0xEE; DRIVE_BYTES]);
         let rows = [&[odd], row, &[odd]].concat();
         Pair {
             hall,
@@ -129,6 +133,7 @@ impl<'h, H: Hall + ?Sized> Pair<'h, H> {
             shares: row.iter().map(Share::of).collect(),
             turns: row.iter().map(|_| Turn::default()).collect(),
             watches: row.iter().map(|_| Watch::default()).collect(),
+            moves: row.iter().map(Moves::of).collect(),
         }
     }
 
@@ -178,6 +183,12 @@ impl<'h, H: Hall + ?Sized> Pair<'h, H> {
             broken |= self.watches[i].turn(&turn, cover.as_deref_mut());
         }
         broken
+    }
+
+    /// Whether a drive's count is not that of its moves, of which a call brings it one at most.
+    fn miscounted(&mut self) -> bool {
+        let drives = self.tested[lent(self.drives)].iter();
+        drives.zip(&mut self.moves).fold(false, |wrong, (drive, moves)| wrong | moves.miscounted(drive))
     }
 
     fn event(
@@ -294,17 +305,17 @@ impl<'h, H: Hall + ?Sized> Pair<'h, H> {
         self.judge((expected, number), lines_differ(self.row(), &model, &tested), Breach::default(), false)
     }
 
-    /// Each side's number, how what they filled differs, and the rows of drives: by field, that is, every
-    /// byte but the two that no field has.
+    /// Each side's number, how what they filled differs, and the rows of drives, byte by byte.
     fn judge(
-        &self,
+        &mut self,
         (expected, number): (u8, u8),
         difference: Option<String>,
         breach: Breach,
         unsettled: bool,
     ) -> Result<(), Failure> {
         let same = number == expected && difference.is_none() && self.tested == self.model;
-        if (same || !self.asks(Ask::Equality)) && breach.none() && !unsettled {
+        let miscounted = self.asks(Ask::Travel) && self.miscounted();
+        if (same || !self.asks(Ask::Equality)) && breach.none() && !unsettled && !miscounted {
             return Ok(());
         }
         let mut text = format!("model {expected}, subject {number}");
@@ -323,6 +334,9 @@ impl<'h, H: Hall + ?Sized> Pair<'h, H> {
         }
         if unsettled {
             text += "\n  W-207 fails";
+        }
+        if miscounted {
+            text += "\n  W-208's count fails";
         }
         Err(Failure { text, drive, breach })
     }

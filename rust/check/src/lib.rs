@@ -1,18 +1,23 @@
 //! A second implementation of the damper drive of document 01, with document 02's hall (W-201), percents
-//! (W-202), shift page (W-203), quota (W-204) and refusal of repeats (W-205), written from the papers without
-//! sight of the proved code, and the runs that set another implementation (a `Subject`, a `Hall`) against it.
-//! W-206 changes no answer: the model still divides, and what a multiplication can get wrong is drawn,
-//! counted and caught. Of the shift page, what the C header and the crate `damper` say to a host had been read too.
+//! (W-202), shift page (W-203), quota (W-204), refusal of repeats (W-205), travel and bill (W-208), written
+//! from the papers without sight of the proved code, and the runs that set another implementation (a
+//! `Subject`, a `Hall`) against it. W-206 changes no answer: the model still divides, and what a
+//! multiplication can get wrong is drawn, counted and caught. Of the shift page, what the C header and the
+//! crate `damper` say to a host had been read too.
 //!
-//! The second implementation is `table`, `event` and `model`, and `hall` over them; it shares with a host's
-//! crate `damper` the types of the drive record and of the answer, and no rule. `check` stands apart: it
-//! reads demand 3 off the list of event records, and `literal` does so word for word. `settle` judges W-207 along
-//! the same lists, by the records of the drive under test, and reads document 01 on its own too. `audits` sets the
-//! proved audit and outlook against `check` and the model. `wrong` and `halls::wrong` are what all of this has to
-//! catch. `plain` is the plain C drive and hall of the benchmark.
+//! The second implementation is `table`, `event` and `model`, and `hall` and `bill` over them; it shares with
+//! a host's crate `damper` the types of the drive record and of the answer, and no rule. `check` stands
+//! apart: it reads demand 3 off the list of event records, and `literal` does so word for word. `settle`
+//! judges W-207 along the same lists, by the records of the drive under test, and reads document 01 on its
+//! own too. `travel` holds W-208's count against the moves there, and `bills` compares the sharing of bills,
+//! and holds the shares against the laws of W-208. `audits` sets the proved audit and outlook against `check`
+//! and the model. `wrong`, `halls::wrong` and `bills::wrong` are what all of this has to catch. `plain` is
+//! the plain C drive and hall of the benchmark.
 
 pub mod audits;
 pub mod bench;
+pub mod bill;
+pub mod bills;
 pub mod cases;
 pub mod check;
 pub mod compare;
@@ -33,5 +38,6 @@ pub mod settle;
 pub mod subject;
 pub mod suite;
 pub mod table;
+pub mod travel;
 pub mod wordings;
 pub mod wrong;

@@ -1,6 +1,6 @@
-//! The drive of document 01, with the percents of document 02's W-202 and the wait of its W-204. A record
-//! becomes a `State`, in which what is absent is absent; one that cannot is refused by 1. An event then acts
-//! on the state or is refused by 9 to 13.
+//! The drive of document 01, with the percents of document 02's W-202, the wait of its W-204 and the travel
+//! of its W-208. A record becomes a `State`, in which what is absent is absent; one that cannot is refused by
+//! 1. An event then acts on the state or is refused by 9 to 13.
 
 use crate::event::{self, Command, Event, Forcing};
 use crate::subject::Subject;
@@ -57,8 +57,9 @@ impl Model {
     pub fn advance(record: &mut Drive) -> Result<Option<Status>, Refusal> {
         let mut state = State::from_record(record).ok_or(Refusal::Record)?;
         let (_, report) = state.advance();
-        let Drive { position, age, run, since, .. } = state.to_record();
+        let Drive { position, age, run, since, travel, .. } = state.to_record();
         (record.position, record.age, record.run, record.since) = (position, age, run, since);
+        record.travel = travel;
         Ok(report)
     }
 
@@ -77,7 +78,8 @@ impl Model {
     }
 }
 
-/// Document 02, W-202: "a percent becomes the nearest position, halves down". With 50 for 49 they would go up.
+/// Document 02, W-202: "a percent becomes the nearest position, halves down". With 50 for 49 they would go
+/// up.
 pub fn percent_to_position(percent: u8) -> u8 {
     ((255 * u16::from(percent) + 49) / 100) as u8
 }
@@ -165,6 +167,8 @@ struct State {
     last: Option<Report>,
     /// Hall ticks in a row at which the drive was due and not sent.
     wait: u16,
+    /// Position units moved.
+    travel: u32,
 }
 
 /// Each flag is 0 or 1.
@@ -186,7 +190,7 @@ fn absent_reads_0<T>(byte: u8, value: T, is_0: bool) -> Option<Option<T>> {
 }
 
 impl State {
-    /// "a fresh one has position 0, defaults below, since 0, nothing else set"
+    /// "a fresh one has position 0, defaults below, since 0, nothing else set"; W-208: "a fresh drive has 0".
     const FRESH: State = State {
         position: 0,
         params: Params::FRESH,
@@ -199,6 +203,7 @@ impl State {
         since: 0,
         last: None,
         wait: 0,
+        travel: 0,
     };
 
     /// "A record is well formed when ..."
@@ -229,6 +234,7 @@ impl State {
             since: r.since,
             last: absent_reads_0(r.last.reported, last, r.last.position == 0 && r.last.status == 0)?,
             wait: r.wait,
+            travel: r.travel,
         })
     }
 
@@ -264,6 +270,7 @@ impl State {
                 status: last.status.0,
             },
             wait: self.wait,
+            travel: self.travel,
         }
     }
 
@@ -337,10 +344,12 @@ impl State {
         Run { goal, left: run_length(self.params.get(Param::Rate)) }
     }
 
-    /// "Restart keeps position and parameters, clears all else and sets since to 0; StartSynchronization 1
-    /// or 2 then starts a run of K ticks toward 0 or 255." W-204: "Restart clears the wait".
+    /// "Restart keeps position and parameters, clears all else and sets since to 0; StartSynchronization 1 or
+    /// 2 then starts a run of K ticks toward 0 or 255." W-204: "Restart clears the wait". W-208, of the
+    /// travel: "restart keeps it".
     fn restart(&mut self) {
-        *self = State { position: self.position, params: self.params, ..State::FRESH };
+        let State { position, params, travel, .. } = *self;
+        *self = State { position, params, travel, ..State::FRESH };
         self.run = match self.params.get(Param::StartSynchronization) {
             1 => Some(self.start(Goal::SyncClose)),
             2 => Some(self.start(Goal::SyncOpen)),
@@ -375,6 +384,9 @@ impl State {
         let (rank, target) = self.ruling();
         let way = before.abs_diff(target).min(self.params.byte(Param::Rate));
         self.position = if target < before { before - way } else { before + way };
+        // W-208: "Each drive counts the position units it has moved, up to 4,294,967,295, where the count
+        // stays".
+        self.travel = self.travel.saturating_add(self.position.abs_diff(before).into());
 
         // 3. A run loses one tick and ends at 0.
         self.run = self.run.and_then(Run::after_tick);

@@ -1,5 +1,6 @@
 //! The plain C drive and hall of `c/plain.c`, for the benchmark.
 
+use crate::hall::HallModel;
 use crate::subject::Hall;
 use damper::{Answer, Drive};
 
@@ -81,5 +82,10 @@ impl Hall for Plain {
     fn page(&self, row: &[Drive], page: &mut [u8]) -> u8 {
         // SAFETY: each pointer goes with the length of its slice.
         unsafe { plain_hall_page(row.as_ptr(), row.len(), page.as_mut_ptr(), page.len()) }
+    }
+
+    /// There is no bill in `c/plain.c`: the second implementation's.
+    fn bill(&self, row: &[Drive], bill: u64, shares: &mut [u32]) -> u8 {
+        HallModel.bill(row, bill, shares)
     }
 }

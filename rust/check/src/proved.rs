@@ -44,6 +44,11 @@ impl Hall for Proved {
     fn page(&self, row: &[Drive], page: &mut [u8]) -> u8 {
         number(damper::hall_page(row, page))
     }
+
+    #[inline]
+    fn bill(&self, row: &[Drive], bill: u64, shares: &mut [u32]) -> u8 {
+        number(damper::hall_bill(row, bill, shares))
+    }
 }
 
 fn number(result: Result<(), HallRefusal>) -> u8 {

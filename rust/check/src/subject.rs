@@ -17,7 +17,7 @@ pub trait Subject {
     fn write(&self, buffer: &mut [u8], fields: [u8; 4]) -> Result<(), Refusal>;
 }
 
-/// A hall of drives in one row. Each call answers 0 or its refusal, 14 to 19.
+/// A hall of drives in one row. Each call answers 0 or its refusal, 14 to 21.
 pub trait Hall {
     /// The bytes to the listed drives, a number for each entry: 0, 14, 15, 16 or 19.
     fn event(&self, row: &mut [Drive], list: &[u32], bytes: &[u8], answers: &mut [u8]) -> u8;
@@ -27,4 +27,7 @@ pub trait Hall {
 
     /// A line for every drive: 0, 14 or 17.
     fn page(&self, row: &[Drive], page: &mut [u8]) -> u8;
+
+    /// The cents of a bill that every drive pays: 0, 14, 20 or 21.
+    fn bill(&self, row: &[Drive], bill: u64, shares: &mut [u32]) -> u8;
 }

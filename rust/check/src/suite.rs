@@ -1,6 +1,8 @@
 //! All comparisons of the proved drive and hall, on as many threads as there are cores, printed.
 
 use crate::audits::{audits, AuditCover};
+use crate::bills::bills;
+use crate::bills::cover::BillCover;
 use crate::compare::{self, Finding};
 use crate::cover::Cover;
 use crate::halls::cover::HallCover;
@@ -18,14 +20,19 @@ const EVENTS: u64 = 20_000_000;
 const STEPS: u64 = 5_000_000;
 const LEAST_COUNT: u64 = 1_000;
 /// What the gate has to reach, where that is more.
-const LEAST: [(&str, u64); 3] =
-    [("hall tick given", 1_000_000), ("W-207 in steps: all", 500_000), ("W-207 in halls: all", 500_000)];
+const LEAST: [(&str, u64); 4] = [
+    ("hall tick given", 1_000_000),
+    ("W-207 in steps: all", 500_000),
+    ("W-207 in halls: all", 500_000),
+    ("bill: all", 1_000_000),
+];
 
 /// Lists that are replayed.
 const REPLAYS: u32 = 20_000;
-/// Events on lists for each hall call, and for each record that is audited.
+/// Events on lists for each hall call, for each record that is audited, and for each bill.
 const EVENTS_A_CALL: u64 = 8;
 const EVENTS_AN_AUDIT: u64 = 4;
+const EVENTS_A_BILL: u64 = 40;
 
 /// How often each case was met, by name.
 type Counts = Vec<(String, u64)>;
@@ -129,6 +136,10 @@ fn parts(events: u64, steps: u64, seed: u64) -> Vec<Part> {
         part("single steps", seed, move || {
             let mut cover = Cover::default();
             (compare::singles(&Proved, seed, steps, &mut cover), cover.counts())
+        }),
+        part("bills", seed, move || {
+            let mut cover = BillCover::default();
+            (bills(&Proved, seed, events / EVENTS_A_BILL, &mut cover), cover.counts())
         }),
         part("replay", seed, move || (replays(proved_replay, seed, REPLAYS), Vec::new())),
     ]

@@ -1,6 +1,6 @@
-//! Wrong drives, each named by what it gets wrong, with the sentence or reading that it goes against and what has to
-//! catch it. What a builder gets wrong inside a rule is the model's text with a change, in `edits/drives.rs`; what goes
-//! wrong before or after an event stands here, around the model.
+//! Wrong drives, each named by what it gets wrong, with the sentence or reading that it goes against and what
+//! has to catch it. What a builder gets wrong inside a rule is the model's text with a change, in
+//! `edits/drives.rs`; what goes wrong before or after an event stands here, around the model.
 
 use crate::check::Clause;
 use crate::compare::{breaks, bytes, first_failure, singles, Ask};
@@ -9,6 +9,7 @@ use crate::event::{self, MARK};
 use crate::flag::Flag;
 use crate::model::Model;
 use crate::subject::Subject;
+use crate::travel::CAP;
 use damper::{Answer, Drive, Motor, Rank, Refusal, Status};
 
 pub struct Wrong {
@@ -22,8 +23,11 @@ pub struct Wrong {
 pub enum By {
     /// This part of demand 3, on lists from fresh.
     Demand3(Clause),
-    /// The comparison on lists from fresh: answers or records differ, and demand 3 admits it or does not see it.
+    /// The comparison on lists from fresh: answers or records differ, and demand 3 admits it or does not see
+    /// it.
     Lists,
+    /// W-208's count by the moves, on lists from fresh, and nothing of demand 3.
+    Travel,
     /// The comparison on single steps: no list from fresh comes to such records, or none that is short.
     Steps,
     /// The comparison of reader and writer.
@@ -43,6 +47,10 @@ impl Wrong {
         match self.by {
             By::Demand3(clause) => demand_3(Some(clause), WITHIN),
             By::Lists => listed(WITHIN) && !demand_3(None, NOT_WITHIN),
+            By::Travel => {
+                first_failure(self.drive, seed, WITHIN, Ask::Travel, None).is_err()
+                    && !demand_3(None, NOT_WITHIN)
+            }
             By::Steps => {
                 singles(self.drive, seed, WITHIN, &mut Cover::default()).is_err() && !listed(NOT_WITHIN)
             }
@@ -137,7 +145,7 @@ macro_rules! wrong {
     };
 }
 
-use By::{Bytes, Demand3, Lists, Steps};
+use By::{Bytes, Demand3, Lists, Steps, Travel};
 use Clause::{Content, Move, OtherMoves, OtherReports, Spacing, Waiting};
 
 wrong! {
@@ -203,8 +211,8 @@ wrong! {
     MovesOnceThenSilent by Demand3(Waiting) => edited::MovesOnceThenSilent::Model;
     // "One declaring the setpoint stale from the start"
     StaleFromStart by Demand3(Move) => edited::StaleFromStart::Model;
-    // "one with an invented since fails its spacing": a report does not clear it; it starts high, when fresh and
-    // at each restart.
+    // "one with an invented since fails its spacing": a report does not clear it; it starts high, when fresh
+    // and at each restart.
     SinceNotCleared by Demand3(Spacing) => after(|before, _, answer, after| {
         if reports(answer) {
             after.since = before.since.saturating_add(1);
@@ -333,6 +341,62 @@ wrong! {
         }
         answer
     });
+
+    // Document 02, W-208: the count, which no answer of a single drive shows
+
+    // "a fresh drive has 0"
+    FreshTravelled by Travel => Around { fresh: || Drive { travel: 1, ..Model.fresh() }, ..RIGHT };
+    // "restart keeps it": it is cleared with "all else".
+    RestartClearsTravel by Travel => after(|_, bytes, answer, after| {
+        if done(answer, bytes, 9) {
+            after.travel = 0;
+        }
+        answer
+    });
+    // "Each drive counts the position units it has moved": only those of reported ticks; those from one
+    // report to the next, as the crow flies; Rate whenever it moves; the distance that there was to go; moves
+    // downward subtracted.
+    OnlyReportedMoves by Travel => after(|before, _, answer, after| {
+        if !reports(answer) {
+            after.travel = before.travel;
+        }
+        answer
+    });
+    FromReportToReport by Travel => after(|before, _, answer, after| {
+        after.travel = before.travel;
+        if reports(answer) {
+            let way = after.position.abs_diff(before.last.position);
+            after.travel = before.travel.saturating_add(way.into());
+        }
+        answer
+    });
+    TravelByRate by Travel => edited::TravelByRate::Model;
+    TravelByDistance by Travel => edited::TravelByDistance::Model;
+    NetTravel by Travel => edited::NetTravel::Model;
+    // "the sum of all its moves in the list of events", and "Only accepted ticks count": a refused tick
+    // counts as one that moves by Rate; a setpoint counts the way to it.
+    RefusedTickTravels by Travel => after(|before, bytes, answer, after| {
+        if refused(answer) && bytes.get(2) == Some(&1) {
+            after.travel = before.travel.saturating_add(before.params[9].into());
+        }
+        answer
+    });
+    SetpointTravels by Travel => after(|before, bytes, answer, after| {
+        if done(answer, bytes, 2) {
+            after.travel = before.travel.saturating_add(bytes[3].abs_diff(before.position).into());
+        }
+        answer
+    });
+    // "up to 4,294,967,295, where the count stays": it goes on from 0; it is cleared; it stops at 65,535 as
+    // other counts do.
+    TravelWraps by Steps => edited::TravelWraps::Model;
+    TravelStartsAnew by Steps => after(|before, _, answer, after| {
+        if before.travel == CAP && after.position != before.position {
+            after.travel = 0;
+        }
+        answer
+    });
+    TravelStopsAt65535 by Steps => edited::TravelStopsAt65535::Model;
 
     // Document 01, records that are not well formed
 

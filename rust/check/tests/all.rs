@@ -1,5 +1,6 @@
 //! One program for all tests, so that what they share is compiled and linked once.
 
+mod bill;
 mod demand_3;
 mod hall;
 mod host;

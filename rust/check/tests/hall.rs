@@ -1,5 +1,5 @@
-//! The hall of document 02's W-201, the shift page of its W-203, the quota of its W-204 and the lists that its
-//! W-205 refuses: their corners by hand, on the proved hall and on the second implementation.
+//! The hall of document 02's W-201, the shift page of its W-203, the quota of its W-204 and the lists that
+//! its W-205 refuses: their corners by hand, on the proved hall and on the second implementation.
 
 use damper::{Answer, Commands, Drive, Last, Rank, Run};
 use damper_check::check::{Checker, Clause, Turn};
@@ -321,8 +321,8 @@ fn what_a_hall_tick_leaves() {
         assert_eq!(hall.tick(&mut row, 1, &mut numbers), 0);
         assert_eq!(numbers, [0, 65_536 + 256 * 25 + 34, 0, 1, 7]);
         let reported = Last { reported: 1, position: 25, status: 34 };
-        assert_eq!(row[0], Drive { position: 25, since: 41, wait: 4, ..before[0] });
-        assert_eq!(row[1], Drive { position: 25, since: 0, wait: 0, last: reported, ..before[1] });
+        assert_eq!(row[0], Drive { position: 25, since: 41, wait: 4, travel: 5, ..before[0] });
+        assert_eq!(row[1], Drive { position: 25, since: 0, wait: 0, last: reported, travel: 5, ..before[1] });
         assert_eq!(row[2], Drive { since: 4, wait: 0, ..before[2] });
         assert_eq!(row[3], before[3]);
     }
@@ -421,8 +421,8 @@ fn a_share_that_waits() {
     assert!(share.hall_tick(false, Some((0, 32)), 0, false, 3).has(Clause::OnlyDue));
 }
 
-/// In a hall of one a drive is sent when it is due and at no other tick, so that what the checker reads off the
-/// list is when the drive by itself reports.
+/// In a hall of one a drive is sent when it is due and at no other tick, so that what the checker reads off
+/// the list is when the drive by itself reports.
 #[test]
 fn due_off_the_list() {
     let mut gen = Gen::new(6);
@@ -444,8 +444,8 @@ fn due_off_the_list() {
     }
 }
 
-/// "A drive due at each of as many hall ticks in a row as the row has drives, and not restarted between them, is
-/// sent at one of them", by a search through the whole list for each hall tick.
+/// "A drive due at each of as many hall ticks in a row as the row has drives, and not restarted between them,
+/// is sent at one of them", by a search through the whole list for each hall tick.
 #[test]
 fn turns_by_a_search() {
     let mut gen = Gen::new(7);
@@ -497,6 +497,10 @@ impl Hall for Choosing {
     fn page(&self, row: &[Drive], page: &mut [u8]) -> u8 {
         HallModel.page(row, page)
     }
+
+    fn bill(&self, row: &[Drive], bill: u64, shares: &mut [u32]) -> u8 {
+        HallModel.bill(row, bill, shares)
+    }
 }
 
 /// Due drives, the longest waiting first, lower numbers first among equals.
@@ -534,10 +538,10 @@ fn the_choice_of_the_others_is_free() {
 }
 
 /// The bytes of a record: what is not named is a fresh drive's.
-fn record_bytes(fields: &[(usize, u8)]) -> [u8; 46] {
-    let mut bytes = [0; 46];
+fn record_bytes(fields: &[(usize, u8)]) -> [u8; 48] {
+    let mut bytes = [0; 48];
     for (param, value) in Model.fresh().params.into_iter().enumerate() {
-        bytes[2 + 2 * param..4 + 2 * param].copy_from_slice(&value.to_le_bytes());
+        bytes[2 * param..2 * param + 2].copy_from_slice(&value.to_le_bytes());
     }
     for &(place, byte) in fields {
         bytes[place] = byte;
@@ -545,50 +549,52 @@ fn record_bytes(fields: &[(usize, u8)]) -> [u8; 46] {
     bytes
 }
 
-/// A row of three in memory, at bytes 0, 46 and 92, and room for a fourth behind it that is not lent.
+/// A row of three in memory, at bytes 0, 48 and 96, and room for a fourth behind it that is not lent.
 #[test]
 fn a_row_of_three_in_bytes() {
     // MinRepTime 1 and RepPer 1, low byte first.
-    let due = [(8, 1), (9, 0), (18, 1), (19, 0)];
-    // Position 10, since 0x0102, last report 9 with status 32, wait 0x0107, by hand toward 100.
-    let first = [(0, 10), (28, 1), (29, 100), (38, 2), (39, 1), (40, 1), (41, 9), (42, 32), (44, 7), (45, 1)];
-    // No run with 9 ticks left; position 11, since 0x0304, wait 0x0605.
-    let second = [(0, 11), (37, 9), (38, 4), (39, 3), (44, 5), (45, 6)];
+    let due = [(6, 1), (7, 0), (16, 1), (17, 0)];
+    // Position 10, since 0x0102, last report 9 with status 32, wait 0x0107, travel 0xFFFF, by hand toward
+    // 100.
+    let first =
+        [(41, 10), (26, 1), (27, 100), (36, 2), (37, 1), (38, 1), (39, 9), (40, 32), (42, 7), (43, 1)];
+    let first = [&first[..], &[(44, 255), (45, 255)]].concat();
+    // No run with 9 ticks left; position 11, since 0x0304, wait 0x0605, travel 0x07000000.
+    let second = [(41, 11), (35, 9), (36, 4), (37, 3), (42, 5), (43, 6), (47, 7)];
     // Position 200, Rate 17, forced to 255, since 255, wait 0x0108.
-    let third = [(0, 200), (20, 17), (27, 3), (38, 255), (44, 8), (45, 1)];
+    let third = [(41, 200), (18, 17), (25, 3), (36, 255), (42, 8), (43, 1)];
     let records = [
         record_bytes(&[&due[..], &first].concat()),
         record_bytes(&second),
         record_bytes(&[&due[..], &third].concat()),
-        [0xEE; 46],
+        [0xEE; 48],
     ];
     let mut after = records;
-    // Held: it moves to 15, since is 0x0103, wait 0x0108.
-    (after[0][0], after[0][38], after[0][44]) = (15, 3, 8);
-    // Sent: it moves to 217, since is 0, the last report 217 with status 48, wait 0.
-    for (place, byte) in [(0, 217), (38, 0), (40, 1), (41, 217), (42, 48), (44, 0), (45, 0)] {
+    // Held: it moves to 15, since is 0x0103, wait 0x0108, travel 0x010004.
+    (after[0][41], after[0][36], after[0][42]) = (15, 3, 8);
+    (after[0][44], after[0][45], after[0][46]) = (4, 0, 1);
+    // Sent: it moves to 217, since is 0, the last report 217 with status 48, wait 0, travel 17.
+    for (place, byte) in [(41, 217), (36, 0), (38, 1), (39, 217), (40, 48), (42, 0), (43, 0), (44, 17)] {
         after[2][place] = byte;
     }
     let mut given = after;
     // A setpoint of 200 with age 0 to the third and the first.
     for drive in [0, 2] {
-        (given[drive][32], given[drive][33]) = (1, 200);
+        (given[drive][30], given[drive][31]) = (1, 200);
     }
     let page = b" 0  15   6 hand     00000010\n 1 --- --- -------- --------\n 2 217  85 forced   00010000\n";
     for hall in [&Proved as &dyn Hall, &HallModel] {
-        let mut memory: Vec<u16> =
-            records.concat().chunks(2).map(|pair| u16::from_ne_bytes([pair[0], pair[1]])).collect();
-        // The two bytes of each record that no field has are left out.
-        let same = |memory: &[u16], expected: [[u8; 46]; 4]| {
-            let bytes: Vec<u8> = memory.iter().flat_map(|pair| pair.to_ne_bytes()).collect();
+        let mut memory: Vec<u32> =
+            records.concat().chunks(4).map(|four| u32::from_ne_bytes(four.try_into().unwrap())).collect();
+        let same = |memory: &[u32], expected: [[u8; 48]; 4]| {
+            let bytes: Vec<u8> = memory.iter().flat_map(|four| four.to_ne_bytes()).collect();
             for (place, (byte, expected)) in bytes.iter().zip(expected.concat()).enumerate() {
-                let gap = place < 3 * 46 && matches!(place % 46, 1 | 43);
-                assert!(gap || *byte == expected, "byte {} of record {}", place % 46, place / 46);
+                assert!(*byte == expected, "byte {} of record {}", place % 48, place / 48);
             }
         };
-        // SAFETY: room for three records of 46 bytes, aligned to 2; any bytes are a record.
-        let row = |memory: &mut [u16]| unsafe {
-            std::slice::from_raw_parts_mut(memory[..69].as_mut_ptr().cast::<Drive>(), 3)
+        // SAFETY: room for three records of 48 bytes, aligned to 4; any bytes are a record.
+        let row = |memory: &mut [u32]| unsafe {
+            std::slice::from_raw_parts_mut(memory[..36].as_mut_ptr().cast::<Drive>(), 3)
         };
         let mut numbers = [7; 4];
         assert_eq!(hall.tick(row(&mut memory), 1, &mut numbers), 0);
@@ -601,6 +607,11 @@ fn a_row_of_three_in_bytes() {
         let mut shown = [0; 3 * LINE];
         assert_eq!(hall.page(row(&mut memory), &mut shown), 0);
         assert_eq!(shown.escape_ascii().to_string(), page.escape_ascii().to_string());
+        same(&memory, given);
+        // By 65,540, 117,440,512 and 17 units moved.
+        let mut shares = [7; 3];
+        assert_eq!(hall.bill(row(&mut memory), 100_000, &mut shares), 0);
+        assert_eq!(shares, [56, 99_944, 0]);
         same(&memory, given);
     }
 }

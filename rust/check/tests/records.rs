@@ -1,5 +1,5 @@
-//! Any bytes are a drive record: the proved drive beside the second implementation on every flag byte and on records
-//! of random bytes.
+//! Any bytes are a drive record: the proved drive beside the second implementation on every flag byte and on
+//! records of random bytes.
 
 use damper::{Answer, Commands, Drive, Last, Refusal, Run};
 use damper_check::flag::Flag;
@@ -46,6 +46,7 @@ fn well_formed_records() -> Vec<Drive> {
         since: 50,
         last: Last { reported: 1, position: 60, status: 32 },
         wait: 70,
+        travel: 80,
         ..fresh
     };
     let commands = |change: fn(&mut Commands)| {
@@ -83,14 +84,35 @@ fn every_wait() {
     }
 }
 
-/// The record in bytes: 46 of them, the wait in the last two, low byte first.
+/// The record in bytes: 48 of them, the wait in two and behind it the travel in the last four, low byte
+/// first.
 #[test]
-fn the_wait_in_bytes() {
-    let record = Drive { wait: 0x1234, ..Model.fresh() };
+fn the_wait_and_the_travel_in_bytes() {
+    let record = Drive { wait: 0x1234, travel: 0x5678_9ABC, ..Model.fresh() };
     let bytes = record.to_bytes();
-    assert_eq!((bytes.len(), bytes[44], bytes[45]), (46, 0x34, 0x12));
+    assert_eq!(bytes.len(), 48);
+    assert_eq!(bytes[42..], [0x34, 0x12, 0xBC, 0x9A, 0x78, 0x56]);
     assert_eq!(Drive::from_bytes(bytes), record);
     assert_eq!(Drive::restore(bytes), Ok(record));
+}
+
+/// Nor is anything asked of the travel: any is well formed, and no event but a tick changes it.
+#[test]
+fn every_travel() {
+    for record in well_formed_records() {
+        let each_byte = (0..=255u32).flat_map(|byte| [byte, byte << 8, byte << 16, byte << 24]);
+        for travel in each_byte.chain(u32::MAX - 256..=u32::MAX) {
+            let travelled = Drive { travel, ..record };
+            assert!(same(travelled));
+            for [kind, a, b, c] in EVENTS {
+                let event = Bytes::event(kind, a, b, c);
+                let after = Proved.step(&travelled, event.as_slice()).1;
+                let way = u32::from(after.position.abs_diff(record.position));
+                assert_eq!(after.travel, travel.saturating_add(way), "{event:?}");
+                assert!(kind == 1 || way == 0);
+            }
+        }
+    }
 }
 
 #[test]

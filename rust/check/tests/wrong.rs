@@ -1,5 +1,8 @@
 //! What the comparison and demand 3 have to find in wrong drives and wrong halls, and what is printed of it.
 
+use damper_check::bills::cover::BillCover;
+use damper_check::bills::wrong as wrong_bills;
+use damper_check::bills::{bills, Law};
 use damper_check::check::Clause;
 use damper_check::compare::lists;
 use damper_check::cover::Cover;
@@ -19,6 +22,56 @@ fn wrong_drives_are_caught() {
 fn wrong_halls_are_caught() {
     for wrong in wrong_halls::ALL {
         assert!(wrong.caught(1, 60_000).is_some(), "{}", wrong.name);
+    }
+}
+
+#[test]
+fn wrong_bills_are_caught() {
+    for wrong in wrong_bills::ALL {
+        assert!(wrong.caught(1, 20_000).is_some(), "{}", wrong.name);
+    }
+}
+
+/// The law named finds each of these by itself, in one bill or another.
+#[test]
+fn shares_break_laws() {
+    for (name, law) in [
+        ("LeftOverDropped", Law::Sum),
+        ("LastCentDropped", Law::Sum),
+        ("RoundedToNearest", Law::Sum),
+        ("RoundedUp", Law::Sum),
+        ("TotalCut", Law::Sum),
+        ("UnmovedPayNothing", Law::Sum),
+        ("UnmovedPayAlike", Law::Unmoved),
+        ("ToTheFirst", Law::Unmoved),
+        ("AllToTheFarthest", Law::Off),
+        ("AllToTheLargest", Law::Off),
+        ("AlikeToMovers", Law::Off),
+        ("CountsCut", Law::Off),
+        ("BrokenLeftOut", Law::Off),
+        ("ToTheFarthest", Law::Order),
+        ("ToTheFirstMovers", Law::Order),
+        ("SmallestAbove0", Law::Order),
+        ("RemaindersCut", Law::Order),
+        ("TiesToHigher", Law::Order),
+        ("TiesToFarthest", Law::Order),
+    ] {
+        assert!(wrong_bills::Wrong::named(name).breaks(law, 1, 20_000), "{name}");
+    }
+}
+
+/// The moves alone find these.
+#[test]
+fn wrong_halls_miscount() {
+    for name in [
+        "HeldMoveNotCounted",
+        "SentMoveNotCounted",
+        "SilentMoveNotCounted",
+        "BrokenTravels",
+        "TravelWraps",
+        "RestartClearsTravel",
+    ] {
+        assert!(Wrong::named(name).miscounted(1, 60_000), "{name}");
     }
 }
 
@@ -63,6 +116,17 @@ fn calls_are_few() {
         let finding = finding.expect_err("a finding");
         let calls: usize = finding.text.split(' ').next().and_then(|n| n.parse().ok()).expect("a count");
         assert!(calls < 10, "{finding}");
+    }
+}
+
+/// What is printed for a wrong bill has as few drives as show it.
+#[test]
+fn drives_are_few() {
+    for (name, most) in [("TiesToHigher", 2), ("SmallestAbove0", 3), ("LeftOverDropped", 2), ("BillCut", 1)] {
+        let wrong = wrong_bills::Wrong::named(name);
+        let finding = bills(wrong, 1, 20_000, &mut BillCover::default()).expect_err("a finding");
+        let counts = finding.text.lines().nth(1).expect("counts");
+        assert!(counts.starts_with("  counts [") && counts.split(',').count() <= most, "{finding}");
     }
 }
 

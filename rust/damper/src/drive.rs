@@ -3,7 +3,10 @@
 use crate::{exported, Answer, Event, Parameter, Refusal};
 use core::array;
 
-/// One drive: its record, 46 bytes of plain numbers, and nothing beside it.
+/// Bytes of a drive's record.
+pub const DRIVE_BYTES: usize = 48;
+
+/// One drive: its record, 48 bytes of plain numbers, and nothing beside it.
 ///
 /// The fields are public. A host shows or stores them, and hiding them would guard nothing: any bytes are a
 /// record, and one that is not well formed is refused by the drive itself, unchanged, by
@@ -11,8 +14,6 @@ use core::array;
 #[repr(C)]
 #[derive(Clone, Copy, PartialEq, Eq, Hash, Debug)]
 pub struct Drive {
-    /// 0 is closed (0 %), 255 is open (100 %).
-    pub position: u8,
     /// The twelve values, in the table's order.
     pub params: [u16; 12],
     /// What is commanded from outside.
@@ -25,8 +26,12 @@ pub struct Drive {
     pub since: u16,
     /// The last report, if any.
     pub last: Last,
+    /// 0 is closed (0 %), 255 is open (100 %).
+    pub position: u8,
     /// Hall ticks in a row at which a report was due and not sent, up to 65,535.
     pub wait: u16,
+    /// Position units moved by ticks, up to 4,294,967,295. A restart keeps it.
+    pub travel: u32,
 }
 
 /// What fault, forcing, hand, tool and bus ask for.
@@ -85,10 +90,10 @@ impl Drive {
     /// use damper::{Drive, Refusal};
     ///
     /// let mut bytes = Drive::fresh().to_bytes();
-    /// bytes[26] = 2; // the fault flag
+    /// bytes[24] = 2; // the fault flag
     /// assert_eq!(Drive::restore(bytes), Err(Refusal::Record));
     /// ```
-    pub fn restore(bytes: [u8; 46]) -> Result<Drive, Refusal> {
+    pub fn restore(bytes: [u8; DRIVE_BYTES]) -> Result<Drive, Refusal> {
         let drive = Drive::from_bytes(bytes);
         if drive.well_formed() {
             Ok(drive)
@@ -97,41 +102,40 @@ impl Drive {
         }
     }
 
-    /// The record of these bytes, well formed or not. No field has bytes 1 and 43, and nothing is asked of
-    /// them.
-    pub fn from_bytes(bytes: [u8; 46]) -> Drive {
+    /// The record of these bytes, well formed or not.
+    pub fn from_bytes(bytes: [u8; DRIVE_BYTES]) -> Drive {
         let pair = |at: usize| u16::from_le_bytes([bytes[at], bytes[at + 1]]);
         let [fault, forcing, hand, handpos, tool, toolpos, stored, setpoint] =
-            array::from_fn(|i| bytes[26 + i]);
+            array::from_fn(|i| bytes[24 + i]);
         Drive {
-            position: bytes[0],
-            params: array::from_fn(|i| pair(2 + 2 * i)),
+            params: array::from_fn(|i| pair(2 * i)),
             commands: Commands { fault, forcing, hand, handpos, tool, toolpos, stored, setpoint },
-            age: pair(34),
-            run: Run { kind: bytes[36], left: bytes[37] },
-            since: pair(38),
-            last: Last { reported: bytes[40], position: bytes[41], status: bytes[42] },
-            wait: pair(44),
+            age: pair(32),
+            run: Run { kind: bytes[34], left: bytes[35] },
+            since: pair(36),
+            last: Last { reported: bytes[38], position: bytes[39], status: bytes[40] },
+            position: bytes[41],
+            wait: pair(42),
+            travel: u32::from_le_bytes(array::from_fn(|i| bytes[44 + i])),
         }
     }
 
-    /// The 46 bytes of the record: each field at its offset in memory, lower byte first, and 0 in bytes 1
-    /// and 43.
-    pub fn to_bytes(&self) -> [u8; 46] {
-        let Drive { position, params, commands: c, age, run, since, last, wait } = *self;
-        let mut bytes = [0; 46];
-        bytes[0] = position;
-        for (pair, value) in bytes[2..26].chunks_exact_mut(2).zip(params) {
+    /// The 48 bytes of the record: each field at its offset in memory, lower byte first.
+    pub fn to_bytes(&self) -> [u8; DRIVE_BYTES] {
+        let Drive { params, commands: c, age, run, since, last, position, wait, travel } = *self;
+        let mut bytes = [0; DRIVE_BYTES];
+        for (pair, value) in bytes[..24].chunks_exact_mut(2).zip(params) {
             pair.copy_from_slice(&value.to_le_bytes());
         }
-        bytes[26..34].copy_from_slice(&[
+        bytes[24..32].copy_from_slice(&[
             c.fault, c.forcing, c.hand, c.handpos, c.tool, c.toolpos, c.stored, c.setpoint,
         ]);
-        bytes[34..36].copy_from_slice(&age.to_le_bytes());
-        bytes[36..38].copy_from_slice(&[run.kind, run.left]);
-        bytes[38..40].copy_from_slice(&since.to_le_bytes());
-        bytes[40..43].copy_from_slice(&[last.reported, last.position, last.status]);
-        bytes[44..46].copy_from_slice(&wait.to_le_bytes());
+        bytes[32..34].copy_from_slice(&age.to_le_bytes());
+        bytes[34..36].copy_from_slice(&[run.kind, run.left]);
+        bytes[36..38].copy_from_slice(&since.to_le_bytes());
+        bytes[38..42].copy_from_slice(&[last.reported, last.position, last.status, position]);
+        bytes[42..44].copy_from_slice(&wait.to_le_bytes());
+        bytes[44..].copy_from_slice(&travel.to_le_bytes());
         bytes
     }
 
@@ -185,30 +189,30 @@ mod tests {
     /// Each byte at its place: the bytes are those of the record in memory.
     #[test]
     fn bytes() {
-        let bytes: [u8; 46] = array::from_fn(|i| if i == 1 || i == 43 { 0 } else { i as u8 });
+        let bytes: [u8; DRIVE_BYTES] = array::from_fn(|i| i as u8);
         let pair = |i: u8| u16::from_le_bytes([i, i + 1]);
         let drive = Drive {
-            position: 0,
-            params: array::from_fn(|i| pair(2 + 2 * i as u8)),
+            params: array::from_fn(|i| pair(2 * i as u8)),
             commands: Commands {
-                fault: 26,
-                forcing: 27,
-                hand: 28,
-                handpos: 29,
-                tool: 30,
-                toolpos: 31,
-                stored: 32,
-                setpoint: 33,
+                fault: 24,
+                forcing: 25,
+                hand: 26,
+                handpos: 27,
+                tool: 28,
+                toolpos: 29,
+                stored: 30,
+                setpoint: 31,
             },
-            age: pair(34),
-            run: Run { kind: 36, left: 37 },
-            since: pair(38),
-            last: Last { reported: 40, position: 41, status: 42 },
-            wait: pair(44),
+            age: pair(32),
+            run: Run { kind: 34, left: 35 },
+            since: pair(36),
+            last: Last { reported: 38, position: 39, status: 40 },
+            position: 41,
+            wait: pair(42),
+            travel: u32::from_le_bytes([44, 45, 46, 47]),
         };
         assert_eq!(Drive::from_bytes(bytes), drive);
         assert_eq!(drive.to_bytes(), bytes);
-        assert_eq!(Drive::from_bytes(array::from_fn(|i| i as u8)), drive);
     }
 
     #[test]

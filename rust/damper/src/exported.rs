@@ -1,8 +1,9 @@
-//! What the archives export, declared once, each behind a safe function. None of the exported functions
+//! What the archives export, declared once, each behind a safe function. The names there end in the number of
+//! the record's layout, so that this crate links no archive of another one. None of the exported functions
 //! asks anything of its arguments beyond pointers that are valid for their lengths and rows that do not
 //! overlap, and a Rust slice is that. They keep no pointer and have no state of their own.
 
-use crate::{Commands, Drive, Findings, Last, Run};
+use crate::{Commands, Drive, Findings, Last, Run, DRIVE_BYTES};
 use core::mem::{align_of, offset_of, size_of};
 
 #[repr(C)]
@@ -61,15 +62,21 @@ pub struct Audited {
 
 // libhost.a
 extern "C" {
+    #[link_name = "damper_fresh_layout3"]
     fn damper_fresh() -> Drive;
+    #[link_name = "damper_well_formed_layout3"]
     fn damper_well_formed(drive: Drive) -> bool;
+    #[link_name = "damper_step_layout3"]
     fn damper_step(drive: Drive, bytes: *const u8, length: usize) -> Stepped;
+    #[link_name = "damper_read_layout3"]
     fn damper_read(bytes: *const u8, length: usize) -> Found;
+    #[link_name = "damper_write_layout3"]
     fn damper_write(buffer: *mut u8, length: usize, kind: u8, a: u8, b: u8, c: u8) -> u8;
 }
 
 // libhost_replay.a
 extern "C" {
+    #[link_name = "damper_replay_layout3"]
     fn damper_replay(
         drive: Drive,
         bytes: *const u8,
@@ -83,6 +90,7 @@ extern "C" {
 
 // libhall_event.a
 extern "C" {
+    #[link_name = "damper_hall_event_layout3"]
     fn damper_hall_event(
         row: *mut Drive,
         drives: usize,
@@ -97,49 +105,61 @@ extern "C" {
 
 // libhall_tick.a
 extern "C" {
+    #[link_name = "damper_hall_tick_layout3"]
     fn damper_hall_tick(row: *mut Drive, drives: usize, quota: u32, numbers: *mut u32, places: usize) -> u8;
 }
 
 // libhall_page.a
 extern "C" {
+    #[link_name = "damper_hall_page_layout3"]
     fn damper_hall_page(row: *const Drive, drives: usize, page: *mut u8, bytes: usize) -> u8;
+}
+
+// libhall_bill.a
+extern "C" {
+    #[link_name = "damper_hall_bill_layout3"]
+    fn damper_hall_bill(row: *const Drive, drives: usize, bill: u64, shares: *mut u32, places: usize) -> u8;
 }
 
 // libhost_audit.a
 extern "C" {
+    #[link_name = "damper_look_ahead_layout3"]
     fn damper_look_ahead(drive: Drive) -> Outlook;
+    #[link_name = "damper_audit_fresh_layout3"]
     fn damper_audit_fresh() -> Audit;
+    #[link_name = "damper_audit_hear_layout3"]
     fn damper_audit_hear(audit: Audit, bytes: *const u8, length: usize, word: u8, code: u32) -> Audited;
 }
 
 const _: () = {
-    assert!(size_of::<Drive>() == 46 && align_of::<Drive>() == 2);
+    assert!(size_of::<Drive>() == DRIVE_BYTES && align_of::<Drive>() == 4);
     assert!(size_of::<Commands>() == 8);
     assert!(size_of::<Run>() == 2);
     assert!(size_of::<Last>() == 3);
-    assert!(offset_of!(Drive, position) == 0);
-    assert!(offset_of!(Drive, params) == 2);
-    assert!(offset_of!(Drive, commands.fault) == 26);
-    assert!(offset_of!(Drive, commands.forcing) == 27);
-    assert!(offset_of!(Drive, commands.hand) == 28);
-    assert!(offset_of!(Drive, commands.handpos) == 29);
-    assert!(offset_of!(Drive, commands.tool) == 30);
-    assert!(offset_of!(Drive, commands.toolpos) == 31);
-    assert!(offset_of!(Drive, commands.stored) == 32);
-    assert!(offset_of!(Drive, commands.setpoint) == 33);
-    assert!(offset_of!(Drive, age) == 34);
-    assert!(offset_of!(Drive, run.kind) == 36);
-    assert!(offset_of!(Drive, run.left) == 37);
-    assert!(offset_of!(Drive, since) == 38);
-    assert!(offset_of!(Drive, last.reported) == 40);
-    assert!(offset_of!(Drive, last.position) == 41);
-    assert!(offset_of!(Drive, last.status) == 42);
-    assert!(offset_of!(Drive, wait) == 44);
+    assert!(offset_of!(Drive, params) == 0);
+    assert!(offset_of!(Drive, commands.fault) == 24);
+    assert!(offset_of!(Drive, commands.forcing) == 25);
+    assert!(offset_of!(Drive, commands.hand) == 26);
+    assert!(offset_of!(Drive, commands.handpos) == 27);
+    assert!(offset_of!(Drive, commands.tool) == 28);
+    assert!(offset_of!(Drive, commands.toolpos) == 29);
+    assert!(offset_of!(Drive, commands.stored) == 30);
+    assert!(offset_of!(Drive, commands.setpoint) == 31);
+    assert!(offset_of!(Drive, age) == 32);
+    assert!(offset_of!(Drive, run.kind) == 34);
+    assert!(offset_of!(Drive, run.left) == 35);
+    assert!(offset_of!(Drive, since) == 36);
+    assert!(offset_of!(Drive, last.reported) == 38);
+    assert!(offset_of!(Drive, last.position) == 39);
+    assert!(offset_of!(Drive, last.status) == 40);
+    assert!(offset_of!(Drive, position) == 41);
+    assert!(offset_of!(Drive, wait) == 42);
+    assert!(offset_of!(Drive, travel) == 44);
 
-    assert!(size_of::<Stepped>() == 52 && align_of::<Stepped>() == 4);
+    assert!(size_of::<Stepped>() == 56 && align_of::<Stepped>() == 4);
     assert!(offset_of!(Stepped, drive) == 0);
-    assert!(offset_of!(Stepped, word) == 46);
-    assert!(offset_of!(Stepped, code) == 48);
+    assert!(offset_of!(Stepped, word) == 48);
+    assert!(offset_of!(Stepped, code) == 52);
 
     assert!(size_of::<Found>() == 5 && align_of::<Found>() == 1);
     assert!(offset_of!(Found, refusal) == 0);
@@ -164,10 +184,10 @@ const _: () = {
     assert!(offset_of!(Outlook, differs) == 8);
     assert!(offset_of!(Outlook, period) == 9);
 
-    assert!(size_of::<Audit>() == 50 && align_of::<Audit>() == 2);
+    assert!(size_of::<Audit>() == 52 && align_of::<Audit>() == 4);
     assert!(offset_of!(Audit, drive) == 0);
-    assert!(offset_of!(Audit, seen) == 46);
-    assert!(offset_of!(Audit, apart) == 48);
+    assert!(offset_of!(Audit, seen) == 48);
+    assert!(offset_of!(Audit, apart) == 50);
 
     assert!(size_of::<Findings>() == 10 && align_of::<Findings>() == 1);
     assert!(offset_of!(Findings, spacing) == 0);
@@ -181,10 +201,10 @@ const _: () = {
     assert!(offset_of!(Findings, refusal) == 8);
     assert!(offset_of!(Findings, answer) == 9);
 
-    assert!(size_of::<Audited>() == 62 && align_of::<Audited>() == 2);
+    assert!(size_of::<Audited>() == 64 && align_of::<Audited>() == 4);
     assert!(offset_of!(Audited, audit) == 0);
-    assert!(offset_of!(Audited, refusal) == 50);
-    assert!(offset_of!(Audited, findings) == 51);
+    assert!(offset_of!(Audited, refusal) == 52);
+    assert!(offset_of!(Audited, findings) == 53);
 };
 
 #[inline]
@@ -265,6 +285,13 @@ pub fn hall_page(row: &[Drive], page: &mut [u8]) -> u8 {
     // SAFETY: each pointer goes with the length of its slice, and one that is lent mutably overlaps no other;
     // any bytes are a `Drive`.
     unsafe { damper_hall_page(row.as_ptr(), row.len(), page.as_mut_ptr(), page.len()) }
+}
+
+#[inline]
+pub fn hall_bill(row: &[Drive], bill: u64, shares: &mut [u32]) -> u8 {
+    // SAFETY: each pointer goes with the length of its slice, and one that is lent mutably overlaps no other;
+    // any bytes are a `Drive`.
+    unsafe { damper_hall_bill(row.as_ptr(), row.len(), bill, shares.as_mut_ptr(), shares.len()) }
 }
 
 #[inline]

@@ -1,5 +1,5 @@
-//! A hall: 1 to 64 drives in one row, worked on where they stand. Document 02, W-201; the shift page is its W-203, the quota its
-//! W-204, and that no list names a drive twice its W-205.
+//! A hall: 1 to 64 drives in one row, worked on where they stand. Document 02, W-201; the shift page is its
+//! W-203, the quota its W-204, that no list names a drive twice its W-205, and the bill its W-208.
 
 use crate::{exported, Drive, Refusal, Status};
 use core::error::Error;
@@ -10,6 +10,9 @@ pub const HALL_MOST: usize = 64;
 
 /// The most reports that a hall tick may be asked to send.
 pub const HALL_QUOTA: u32 = 64;
+
+/// The most cents of a bill.
+pub const HALL_BILL: u64 = 1_000_000_000;
 
 /// Bytes of a drive's line on the shift page: 28 columns and a line feed.
 pub const HALL_LINE: usize = 29;
@@ -47,14 +50,14 @@ pub fn hall_event(
     refused_or_done(exported::hall_event(row, list, bytes, answers))
 }
 
-/// Ticks every drive of the row and sends at most `quota`, 1 to [`HALL_QUOTA`], of the reports that are due, which are those that ticks
-/// given to the drives alone would send.
+/// Ticks every drive of the row and sends at most `quota`, 1 to [`HALL_QUOTA`], of the reports that are due,
+/// which are those that ticks given to the drives alone would send.
 ///
-/// If any is due, the drive that waited longest is sent, of several the one with the lower number; which others are sent
-/// is not promised. One that is due and not sent moves as at any tick, keeps its last report, and its [`Drive::wait`] rises
-/// by one; sent or not due, it has wait 0. A drive that is due at each of as many hall ticks in a row as the row has
-/// drives, and is not restarted between them, is sent at one of these, provided that nobody else writes the row and its
-/// length stays the same.
+/// If any is due, the drive that waited longest is sent, of several the one with the lower number; which
+/// others are sent is not promised. One that is due and not sent moves as at any tick, keeps its last report,
+/// and its [`Drive::wait`] rises by one; sent or not due, it has wait 0. A drive that is due at each of as
+/// many hall ticks in a row as the row has drives, and is not restarted between them, is sent at one of
+/// these, provided that nobody else writes the row and its length stays the same.
 ///
 /// What the tick of drive i gave is the number `numbers[i]`, which [`HallTick::from_number`] reads; further
 /// places keep their content. A call that is refused itself touches nothing.
@@ -87,10 +90,10 @@ pub fn hall_tick(row: &mut [Drive], quota: u32, numbers: &mut [u32]) -> Result<(
 /// Writes the shift page, a line of [`HALL_LINE`] bytes for each drive of the row, in its order.
 ///
 /// A line has the drive's number, its position and its percent, to the right in 2, 3 and 3 columns; who rules
-/// (fault, forced, run, hand, tool, bus or backup), to the left in 8; and the status, the highest bit first, in
-/// 8; a blank between two of these. Who rules and the status are of the record as it is. A record that is not
-/// well formed shows its number, and minus signs in the other fields. Bytes behind the last line keep their
-/// content. A call that is refused, as [`HallRefusal::Row`] or [`HallRefusal::Page`], writes nothing.
+/// (fault, forced, run, hand, tool, bus or backup), to the left in 8; and the status, the highest bit first,
+/// in 8; a blank between two of these. Who rules and the status are of the record as it is. A record that is
+/// not well formed shows its number, and minus signs in the other fields. Bytes behind the last line keep
+/// their content. A call that is refused, as [`HallRefusal::Row`] or [`HallRefusal::Page`], writes nothing.
 ///
 /// ```
 /// use damper::{hall_page, Drive, Event, HallRefusal, HALL_LINE};
@@ -112,6 +115,31 @@ pub fn hall_tick(row: &mut [Drive], quota: u32, numbers: &mut [u32]) -> Result<(
 #[inline]
 pub fn hall_page(row: &[Drive], page: &mut [u8]) -> Result<(), HallRefusal> {
     refused_or_done(exported::hall_page(row, page))
+}
+
+/// Shares a bill in whole cents out over the hall by [`Drive::travel`], one share for each drive of the row.
+///
+/// Each gets the share that its travel makes of all the travel, rounded down, and cents that are left over go
+/// one each to the largest remainders, of equal ones to the lower number; so the shares add up to the bill.
+/// Nothing but the travel is looked at: a record that is not well formed shares too. A call that is refused,
+/// as [`HallRefusal::Row`], [`HallRefusal::Bill`] or [`HallRefusal::Unmoved`], writes nothing.
+///
+/// ```
+/// use damper::{hall_bill, Drive, HallRefusal};
+///
+/// let mut row = [Drive::fresh(); 3];
+/// let mut shares = [7; 3];
+/// assert_eq!(hall_bill(&row, 100, &mut shares), Err(HallRefusal::Unmoved));
+/// row[0].travel = 20;
+/// row[2].travel = 10;
+/// assert_eq!(hall_bill(&row, 100, &mut shares[..2]), Err(HallRefusal::Bill));
+/// assert_eq!(shares, [7; 3]);
+/// assert_eq!(hall_bill(&row, 100, &mut shares), Ok(()));
+/// assert_eq!(shares, [67, 0, 33]);
+/// ```
+#[inline]
+pub fn hall_bill(row: &[Drive], bill: u64, shares: &mut [u32]) -> Result<(), HallRefusal> {
+    refused_or_done(exported::hall_bill(row, bill, shares))
 }
 
 /// 0 is no refusal.
@@ -140,20 +168,26 @@ pub enum HallRefusal {
     Quota,
     /// The list names a drive twice.
     Twice,
+    /// The bill is over [`HALL_BILL`] cents, or there is not exactly one place for a share for each drive.
+    Bill,
+    /// No drive has moved.
+    Unmoved,
 }
 
 impl HallRefusal {
-    /// 14 to 19.
-    pub const ALL: [HallRefusal; 6] = [
+    /// 14 to 21.
+    pub const ALL: [HallRefusal; 8] = [
         HallRefusal::Row,
         HallRefusal::Number,
         HallRefusal::Call,
         HallRefusal::Page,
         HallRefusal::Quota,
         HallRefusal::Twice,
+        HallRefusal::Bill,
+        HallRefusal::Unmoved,
     ];
 
-    /// Document 02's number, 14 to 19.
+    /// Document 02's number, 14 to 21.
     pub const fn number(self) -> u8 {
         self as u8
     }
@@ -173,6 +207,10 @@ impl fmt::Display for HallRefusal {
             HallRefusal::Page => "the page has fewer than 29 bytes for each drive",
             HallRefusal::Quota => "the quota is not 1 to 64",
             HallRefusal::Twice => "the list names a drive twice",
+            HallRefusal::Bill => {
+                "the bill is over 1,000,000,000 cents, or the shares are not one for each drive"
+            }
+            HallRefusal::Unmoved => "no drive has moved",
         })
     }
 }
@@ -255,7 +293,7 @@ mod tests {
         }
         for number in 0..=255 {
             let refusal = HallRefusal::numbered(number);
-            assert_eq!(refusal.is_some(), (14..=19).contains(&number));
+            assert_eq!(refusal.is_some(), (14..=21).contains(&number));
             assert!(refusal.is_none_or(|refusal| refusal.number() == number));
         }
     }

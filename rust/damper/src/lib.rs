@@ -1,15 +1,16 @@
-//! The proved damper drive of documents 01 and 02, alone and in a hall, for hosts in Rust. The drive itself is
-//! in the archives `libhost.a` and `libhost_replay.a`, the calls on a hall of drives in `libhall_event.a`,
-//! `libhall_tick.a` and `libhall_page.a`, what a tick goes by and the audit of a drive's answers in
-//! `libhost_audit.a`, written and proved in Rattle; this crate gives their numbers types and decides nothing.
+//! The proved damper drive of documents 01 and 02, alone and in a hall, for hosts in Rust. The drive itself
+//! is in the archives `libhost.a` and `libhost_replay.a`, the calls on a hall of drives in `libhall_event.a`,
+//! `libhall_tick.a`, `libhall_page.a` and `libhall_bill.a`, what a tick goes by and the audit of a drive's
+//! answers in `libhost_audit.a`, written and proved in Rattle; this crate gives their numbers types and
+//! decides nothing.
 //!
 //! Cargo links them from the folder that the environment variable DAMPER_ARCHIVES names, or from the
 //! repository's target/staticlib, where `rt staticlib host`, `rt staticlib host_replay`,
-//! `rt staticlib host_audit`, `rt staticlib hall_event`, `rt staticlib hall_tick` and
-//! `rt staticlib hall_page` write them.
+//! `rt staticlib host_audit`, `rt staticlib hall_event`, `rt staticlib hall_tick`,
+//! `rt staticlib hall_page` and `rt staticlib hall_bill` write them.
 //!
 //! ```
-//! use damper::{Answer, Drive, Event, Parameter, Rank, Refusal};
+//! use damper::{Answer, Drive, Event, Parameter, Rank, Refusal, DRIVE_BYTES};
 //!
 //! let mut drive = Drive::fresh();
 //! assert_eq!(drive.give(Event::WriteParameter(Parameter::MinRepTime, 1)), Answer::Done);
@@ -22,11 +23,12 @@
 //! assert_eq!(drive.step(&[0x5A, 0xC3, 6, 2, 0, 0]), Answer::Refused(Refusal::Value));
 //!
 //! // Through storage and back.
-//! let stored: [u8; 46] = drive.to_bytes();
+//! let stored: [u8; DRIVE_BYTES] = drive.to_bytes();
 //! assert_eq!(Drive::restore(stored), Ok(drive));
 //! ```
 //!
-//! A hall holds up to 64 drives in one row: [`hall_event`], [`hall_tick`] and [`hall_page`]. [`Audit`] holds the
+//! A hall holds up to 64 drives in one row: [`hall_event`], [`hall_tick`], [`hall_page`] and
+//! [`hall_bill`]. [`Audit`] holds the
 //! answers of any drive against the list of its event records.
 
 #![no_std]
@@ -49,10 +51,11 @@ mod refusal;
 
 pub use answer::{Answer, Motor, Rank, Status};
 pub use audit::{Audit, Findings, Said};
-pub use drive::{Commands, Drive, Last, Run};
+pub use drive::{Commands, Drive, Last, Run, DRIVE_BYTES};
 pub use event::{read, write, Command, Event};
 pub use hall::{
-    hall_event, hall_page, hall_tick, HallAnswer, HallRefusal, HallTick, HALL_LINE, HALL_MOST, HALL_QUOTA,
+    hall_bill, hall_event, hall_page, hall_tick, HallAnswer, HallRefusal, HallTick, HALL_BILL, HALL_LINE,
+    HALL_MOST, HALL_QUOTA,
 };
 pub use outlook::Outlook;
 pub use parameter::Parameter;

@@ -282,7 +282,7 @@ fn written(parameter: Parameter, before: &Seen, after: &Seen) -> String {
 }
 
 fn restarted(after: &Seen) -> String {
-    let kept = format!("position {} and the parameters are kept", place(after.drive.position));
+    let kept = format!("position {}, parameters and travel are kept", place(after.drive.position));
     let then = match speech::run(after.status()) {
         None => after.rule(),
         Some(run) => format!("{run} starts and rules for {}", after.run_ahead()),

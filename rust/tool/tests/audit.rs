@@ -26,7 +26,7 @@ const ERRORS: [(&str, &str); 5] = [
 ];
 
 /// Wrong drives that no recording from fresh shows, and why.
-const UNSHOWN: [(&str, &str); 8] = [
+const UNSHOWN: [(&str, &str); 20] = [
     ("ReaderTakesMore", "the reader by itself"),
     ("WriterMarksFirst", "the writer by itself"),
     ("RefusedFlagMended", "records that are not well formed"),
@@ -35,6 +35,18 @@ const UNSHOWN: [(&str, &str); 8] = [
     ("RestartKeepsWait", "the wait of a hall's drive"),
     ("TickCountsWait", "the wait of a hall's drive"),
     ("FreshWaits", "the wait of a hall's drive"),
+    ("FreshTravelled", "the travel"),
+    ("RestartClearsTravel", "the travel"),
+    ("OnlyReportedMoves", "the travel"),
+    ("FromReportToReport", "the travel"),
+    ("TravelByRate", "the travel"),
+    ("TravelByDistance", "the travel"),
+    ("NetTravel", "the travel"),
+    ("RefusedTickTravels", "the travel"),
+    ("SetpointTravels", "the travel"),
+    ("TravelWraps", "the travel"),
+    ("TravelStartsAnew", "the travel"),
+    ("TravelStopsAt65535", "the travel"),
 ];
 
 #[test]
@@ -120,8 +132,8 @@ fn nothing_in_our_own() {
     }
 }
 
-/// Each sentence lies in a line at each record at which it fails, each line has as many as it says, and the lines
-/// come in the order of their first records.
+/// Each sentence lies in a line at each record at which it fails, each line has as many as it says, and the
+/// lines come in the order of their first records.
 fn covered(findings: &[Findings], text: &str) {
     let mut lines: Vec<_> = text.lines().collect();
     let count = lines.pop().unwrap();

@@ -6,6 +6,7 @@ use crate::hall::{numbers_of, Drives, Ticked, LINE};
 use crate::percents::Percents;
 use crate::settle::cover::SettleCover;
 use crate::table::Param;
+use crate::travel::{TravelCover, CAP};
 use damper::{Drive, HallTick};
 use std::cmp::Ordering;
 
@@ -20,6 +21,7 @@ macro_rules! counters {
             backup: Percents,
             lines: Lines,
             pub settling: SettleCover,
+            travel: TravelCover,
         }
 
         impl HallCover {
@@ -29,7 +31,8 @@ macro_rules! counters {
                 let backup = self.backup.counts("as BackupValue where a hall tick by backup ends");
                 let named = [$(($text.to_string(), self.$name)),*];
                 let lines = self.lines.counts();
-                answers.chain(named).chain(backup).chain(lines).chain(self.settling.counts(true)).collect()
+                let settling = self.settling.counts(true).into_iter().chain(self.travel.counts("in halls"));
+                answers.chain(named).chain(backup).chain(lines).chain(settling).collect()
             }
         }
     };
@@ -135,6 +138,11 @@ counters! {
     last_turn_refused: "the same with a refused hall tick in between",
     shares: "share of a fresh drive, checked",
     shares_held: "share of a fresh drive, held at its last hall tick",
+    move_sent: "travel in halls: a move of a drive that is sent counted",
+    move_held: "travel in halls: a move of a drive that is held counted",
+    move_not_due: "travel in halls: a move of a drive that is silent, not being due, counted",
+    held_to_cap: "travel in halls: coming to the cap where held",
+    sent_to_cap: "travel in halls: coming to the cap where sent",
     page_14: "page refused by 14",
     page_17: "page refused by 17",
     page_fit_14_17: "page: 14 and 17 fit",
@@ -299,6 +307,9 @@ impl HallCover {
             self.answers[usize::from(answer)] += 1;
         }
         let restart = Event::from_bytes(bytes) == Ok(Event::Restart);
+        for (&number, _) in list.iter().zip(answers).filter(|(_, answer)| **answer == 0) {
+            self.travel.accepted(&row[number as usize], restart);
+        }
         for (&number, &answer) in
             list.iter().zip(answers).filter(|(number, _)| row[**number as usize].wait > 0)
         {
@@ -373,6 +384,7 @@ impl HallCover {
         add(&mut self.mixed_row, broken > 0 && broken < drives);
         self.choice(row, quota, ticked.due, numbers, sent);
         self.waits(row, ticked.due, numbers, sent);
+        self.travels((row, after), ticked.due, numbers, sent);
         for (i, drive) in row.iter().enumerate().filter(|(i, _)| numbers[*i] != 1) {
             self.backup.tick(drive, after[i].position);
         }
@@ -436,6 +448,25 @@ impl HallCover {
             add(&mut self.wait_of_sent, goes && drive.wait > 0);
             add(&mut self.wait_of_broken, broken && drive.wait > 0);
             add(&mut self.wait_of_not_due, !is_due && !broken && drive.wait > 0);
+        }
+    }
+
+    /// What a hall tick makes of the counts, by the rows before and after it.
+    fn travels(&mut self, (row, after): (&[Drive], &[Drive]), due: Drives, numbers: &[u32], sent: Drives) {
+        for (i, (before, after)) in row.iter().zip(after).enumerate() {
+            if numbers[i] == HallTick::NotWellFormed.to_number() {
+                self.travel.refused();
+                continue;
+            }
+            self.travel.tick(before, after);
+            let (is_due, goes) = (due >> i & 1 == 1, sent >> i & 1 == 1);
+            let counted = before.travel < after.travel;
+            add(&mut self.move_sent, counted && goes);
+            add(&mut self.move_held, counted && is_due && !goes);
+            add(&mut self.move_not_due, counted && !is_due);
+            let to_cap = counted && after.travel == CAP;
+            add(&mut self.sent_to_cap, to_cap && goes);
+            add(&mut self.held_to_cap, to_cap && is_due && !goes);
         }
     }
 

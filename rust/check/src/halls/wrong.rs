@@ -1,5 +1,6 @@
-//! Wrong halls, each named by what it gets wrong, with the sentence or reading of document 02 that it goes against:
-//! the second implementation with something wrong about one of its three calls. The comparison has to catch every one.
+//! Wrong halls, each named by what it gets wrong, with the sentence or reading of document 02 that it goes
+//! against: the second implementation with something wrong about one of its calls but the bill. The
+//! comparison has to catch every one.
 
 use super::first_failure;
 use crate::check::Breach;
@@ -138,6 +139,10 @@ impl Hall for Wrong {
             _ => HallModel.page(row, page),
         }
     }
+
+    fn bill(&self, row: &[Drive], bill: u64, shares: &mut [u32]) -> u8 {
+        HallModel.bill(row, bill, shares)
+    }
 }
 
 impl Wrong {
@@ -154,6 +159,11 @@ impl Wrong {
     /// Whether a drive of it breaks W-207.
     pub fn unsettled(&self, seed: u64, calls: u64) -> bool {
         first_failure(self, seed, calls, Ask::Settling, None).is_err()
+    }
+
+    /// Whether a drive of it miscounts its moves.
+    pub fn miscounted(&self, seed: u64, calls: u64) -> bool {
+        first_failure(self, seed, calls, Ask::Travel, None).is_err()
     }
 
     /// What demand 3 of the shares finds first.
@@ -372,15 +382,15 @@ wrong! {
 
     // W-204 "sends at most that many reports": one more.
     OneOverQuota: Sent(|_, due, quota| due.into_iter().take(quota + 1).collect());
-    // "If any is due, the one that waited longest goes": none does; the lowest does; the one with the most ticks since
-    // its report does.
+    // "If any is due, the one that waited longest goes": none does; the lowest does; the one with the most
+    // ticks since its report does.
     NothingSent: Sent(|_, _, _| Vec::new());
     LowestGoes: Sent(|_, due, _| due.into_iter().min().into_iter().collect());
     LongestBySince: Sent(|row, due, _| due.into_iter().max_by_key(|&i| row[i].since).into_iter().collect());
     // "lower number first among equals": the higher.
     TiesToHigher: Sent(|row, due, _| due.into_iter().max_by_key(|&i| (row[i].wait, i)).into_iter().collect());
-    // "A well-formed drive is due when the fourth step of a tick would report": not if MinRepTime is reached by this
-    // tick; one that is not is sent.
+    // "A well-formed drive is due when the fourth step of a tick would report": not if MinRepTime is reached
+    // by this tick; one that is not is sent.
     DueBeforeAgeing: After(Ticked::Sent, |before, drive, number| {
         if before.since < before.params[Param::MinRepTime as usize] {
             (drive.since, drive.last, *number) = (before.since + 1, before.last, 0);
@@ -399,8 +409,8 @@ wrong! {
     BrokenWaitCleared: After(NotWellFormed, |_, drive, _| drive.wait = 0);
     // "Spacing stays": a report does not clear since.
     SentKeepsSince: After(Ticked::Sent, |before, drive, _| drive.since = before.since.saturating_add(1));
-    // A due drive that is not sent answers 0, its since has risen and is not reset, its last report stays, and its
-    // wait rises by one.
+    // A due drive that is not sent answers 0, its since has risen and is not reset, its last report stays,
+    // and its wait rises by one.
     HeldAnswered: After(Held, |_, drive, number| *number = report_number(drive.position, status(drive)));
     HeldResetsSince: After(Held, |_, drive, _| drive.since = 0);
     HeldStoresReport: After(Held, |_, drive, _| {
@@ -476,5 +486,27 @@ wrong! {
         let [.., rate, low, high] = before.params.map(|value| value as u8);
         let target = addend_476(before.params[Param::BackupValue as usize] as u8);
         drive.position = toward(before.position, target.max(low).min(high), rate.into());
+    });
+
+    // W-208 "Each drive counts the position units it has moved": not those of a tick that holds it, sends it
+    // or leaves it silent; a drive not well formed counts what it would have moved.
+    HeldMoveNotCounted: After(Held, |before, drive, _| drive.travel = before.travel);
+    SentMoveNotCounted: After(Ticked::Sent, |before, drive, _| drive.travel = before.travel);
+    SilentMoveNotCounted: After(NotDue, |before, drive, _| drive.travel = before.travel);
+    BrokenTravels: After(NotWellFormed, |_, drive, _| {
+        drive.travel = drive.travel.saturating_add(drive.params[Param::Rate as usize].into());
+    });
+    // "up to 4,294,967,295, where the count stays": in a hall tick it goes on from 0.
+    TravelWraps: After(NotDue, |before, drive, _| {
+        drive.travel = before.travel.wrapping_add(drive.position.abs_diff(before.position).into());
+    });
+    // "restart keeps it": given by a list it does not.
+    RestartClearsTravel: EventCall(|row, list, bytes, answers| {
+        let refusal = HallModel.event(row, list, bytes, answers);
+        if refusal == 0 && Event::from_bytes(bytes) == Ok(Event::Restart) {
+            let given = list.iter().zip(answers).filter(|(_, answer)| **answer == 0);
+            given.for_each(|(&number, _)| row[number as usize].travel = 0);
+        }
+        refusal
     });
 }

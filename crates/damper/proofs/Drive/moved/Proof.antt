@@ -6,7 +6,7 @@ use Rattle.damper.proofs.Drive.moved.Tie as tie
 
 returns : tie.Need-returns
 unfolding moved
-returns c = simp (c .with-position .ensures, c .before .toward .ensures, c .before .before .target .ensures) refl
+returns c = simp (c .with-move .ensures, c .before .toward .ensures, c .before .before .target .ensures) refl
 
 pub moved-spec : {M : Type 1} → statement M
 moved-spec = tie.close (tie.spec (λ c κs. search needs) (λ c. search needs) (λ c. search needs) (λ c κs. search needs) (λ c κs. search needs) returns)
