@@ -172,6 +172,13 @@ pub data ShareTrace (row : List Drive) (i : ℕ) : List Call → Trace → Type 
       → ShareTrace row i (cs ++ (tick quota sends room ∷ []))
       (moment (0x5a ∷ 0xc3 ∷ 1 ∷ 0 ∷ 0 ∷ 0 ∷ []) (hallTicked (sends i) (drive (hallAfter hallStep row cs) i)) ∷ t)
 
+-- "which replaces the waiting limb for halls": of the records of `new`, which came after the trace `old`, each tick breaks that limb and none
+-- is a restart; `m` is any of them, and `earlier` what is of `new` before it
+abbrev pub BrokenThroughout : Trace → Trace → Type 0
+BrokenThroughout old new =
+    (later : Trace) (m : Moment) (earlier : Trace) → new ≡ later ++ (m ∷ earlier)
+    → (S.TickAt m (earlier ++ old) → S.Waiting m (earlier ++ old) → ⊥) × (S.RestartAt m (earlier ++ old) → ⊥)
+
 -- ── W-203: shift page ──
 
 -- "17 when the lent page is shorter than 29 bytes per drive, checked after 14"

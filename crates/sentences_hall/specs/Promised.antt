@@ -25,14 +25,15 @@ use Rattle.hall.specs.Hall.{Call, give, tick, callRefusal, namedIn, Given, byte
 use Rattle.hall.specs.Hall.{turned, rowAfter, answersAfter, turnsIn, hallAfter, sharedOut, share}
 use Rattle.hall.specs.Quota.{dueNow, hallTicked, hallStep, allowedCall, allowedCalls}
 use Rattle.hall.specs.Laws.{row-length}
-use Rattle.history.specs.Readings.{travelIn}
-use Rattle.history.specs.Claim.{Moment, Trace, momentOf, traceOn}
+use Rattle.history.specs.Readings.{isTick, isRestart, travelIn}
+use Rattle.history.specs.Claim.{Moment, Trace, momentOf, acceptedAs, ticksIn, traceOn}
 use Rattle.shares.specs.Shares.{share-append, share-drive, share-answers}
 use Rattle.shares.specs.WaitLaws.{restart}
 use Rattle.shares.specs.Bound as Bound
 use Rattle.shares.specs.Bound.{ticksGiven, dueAtEach, sentAtOne, restarted}
 use Rattle.shares.specs.Theorem.{shareTrace, share-claim}
-use Rattle.shares.specs.Waiting.{share-finds-due}
+use Rattle.shares.specs.Waiting as Waits
+use Rattle.shares.specs.Waiting.{Broken, none, atTick, other, share-finds-due}
 use Rattle.shares.specs.Arrival.{tickGiven, rateGiven, hall-moves, given-settles}
 use Rattle.shares.specs.Travelled.{share-travel}
 use Rattle.sentences.specs.Words.{_is_, _exceeds_, someOf, choose, firstThatFits}
@@ -43,7 +44,8 @@ use Rattle.sentences_list.specs.Paper as L
 use Rattle.sentences_list.specs.Moves.{capped}
 use Rattle.sentences_list.specs.Sentences.{history, travel}
 use Rattle.sentences_claim.specs.Paper as S
-use Rattle.sentences_claim.specs.Counts.{head-eq, tail-eq}
+use Rattle.sentences_claim.specs.Tests as Tests
+use Rattle.sentences_claim.specs.Counts.{head-eq, tail-eq, ticks-clock}
 use Rattle.sentences_claim.specs.Holds.{same-waiting}
 use Rattle.sentences_claim.specs.Traces.{same-hall-claim}
 use Rattle.sentences_claim.specs.Arrives as Arrives
@@ -280,6 +282,31 @@ pub promised : (row : List Drive) (cs : List Call) (i : ℕ) → i < length row 
 promised row cs i h fresh a t g =
     subst (S.Everywhere S.HallHolds) (only row i h g)
     (same-hall-claim (shareTrace row i cs) .0 (share-claim row cs i h fresh (same-may-send row cs .1 a)))
+
+-- ── "which replaces the waiting limb for halls" ──
+broken-by : (old new : Trace) → P.BrokenThroughout old new → Broken old new
+broken-by old [] f = none
+broken-by old (m ∷ new) f =
+    let here = f [] m new refl in
+    let rest = broken-by old new (λ later x earlier e. f (m ∷ later) x earlier (ap (λ (t : Trace). m ∷ t) e)) in
+    cases (acceptedAs isTick m (new ++ old))
+    (λ q. atTick q (λ w. here .0 (Tests.same-tick m (new ++ old) .0 q) (same-waiting m (new ++ old) .0 w)) rest)
+    (λ q.
+    other q
+    (cases (acceptedAs isRestart m (new ++ old)) (λ r. absurd (here .1 (Tests.same-restart m (new ++ old) .0 r))) (λ r. r))
+    rest)
+
+pub waiting-bound : (row : List Drive) (before after : List Call) (i : ℕ) → i < length row → P.drive row i ≡ freshDrive
+    → P.EachMaySend row (before ++ after)
+    → (old new : Trace) → P.ShareTrace row i before old → P.ShareTrace row i (before ++ after) (new ++ old) → P.BrokenThroughout old new
+    → S.clock (new ++ old) < S.clock old + length row
+waiting-bound row before after i h fresh a old new g k f =
+    let same = only row i h g in
+    let bound : ticksIn new old < length row =
+    subst (λ (t : Trace). ticksIn new t < length row) same
+    (Waits.waiting-bound row before after i h fresh (same-may-send row (before ++ after) .1 a) new
+    (only row i h k ∙ ap (λ (t : Trace). new ++ t) (sym same)) (subst (λ (t : Trace). Broken t new) (sym same) (broken-by old new f))) in
+    omega (arith, bound, ticks-clock new old)
 
 -- ── W-207: it gets there ──
 tick-given : (d : Drive) (g : Given) → (tickGiven d g ≡ true) ↔ P.TickGiven d g

@@ -318,6 +318,14 @@ pub promised : (row : List Drive) (cs : List Call) (i : ℕ) → i < length row 
     → (t : Trace) → P.ShareTrace row i cs t → S.Everywhere S.HallHolds t
 promised row cs i h fresh a t g = Promised.promised row cs i h fresh a t g
 
+-- "which replaces the waiting limb for halls": in a row of records of its share in which each tick breaks that limb and none is a restart, a
+-- drive has fewer ticks than the hall has drives
+pub waiting-bound : (row : List Drive) (before after : List Call) (i : ℕ) → i < length row → P.drive row i ≡ freshDrive
+    → P.EachMaySend row (before ++ after)
+    → (old new : Trace) → P.ShareTrace row i before old → P.ShareTrace row i (before ++ after) (new ++ old) → P.BrokenThroughout old new
+    → S.clock (new ++ old) < S.clock old + length row
+waiting-bound row before after i h fresh a old new g k f = Promised.waiting-bound row before after i h fresh a old new g k f
+
 -- what a share gives a drive has the drives that its ticks find, and leaves the drive of the hall after the calls
 pub ticks-found : (row : List Drive) (cs : List Call) (i : ℕ) → i < length row → (let d = P.drive row i in
     (found : List Drive) × S.TicksFind hallStep P.TickGiven d (share (length row) i cs) found (P.drive (hallAfter hallStep row cs) i))
