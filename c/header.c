@@ -4,6 +4,7 @@
  */
 #include "damper.h"
 
+#include <math.h>
 #include <stdio.h>
 #include <stdlib.h>
 #include <string.h>
@@ -1047,6 +1048,94 @@ static damper_audit heard(damper_audit a, unsigned kind, unsigned v, unsigned b,
     return r.audit;
 }
 
+/* The float of these bits. */
+static float of_bits(uint32_t bits)
+{
+    float f;
+    memcpy(&f, &bits, sizeof f);
+    return f;
+}
+
+/* The refusal of a reading. */
+static unsigned flow_refusal(damper_flow flow, uint32_t kind, float value)
+{
+    damper_flow_heard h = damper_flow_hear(flow, kind, value);
+    CHECK(h.refusal == 0 || (h.reported == 0 && h.percent == 0 && h.flow == 0));
+    CHECK((h.refusal == DAMPER_FLOW_REFUSAL_RECORD) == !damper_flow_well_formed(flow));
+    /* What is refused leaves every field as it was, bit by bit. */
+    CHECK(h.refusal == 0 || (h.state.since == flow.since && h.state.sent == flow.sent && h.state.time == flow.time &&
+                             memcmp(&h.state.nominal, &flow.nominal, sizeof(float)) == 0 &&
+                             memcmp(&h.state.cov, &flow.cov, sizeof(float)) == 0 &&
+                             memcmp(&h.state.last, &flow.last, sizeof(float)) == 0));
+    return h.refusal;
+}
+
+/* Each field of a flow box, kind of reading and refusal by what the box does with it. */
+static void flows(void)
+{
+    damper_flow fresh = damper_flow_fresh(200, 10, 3);
+    CHECK(fresh.nominal == 200 && fresh.cov == 10 && fresh.time == 3 && fresh.last == 0 && fresh.since == 0 && fresh.sent == 0);
+
+    /* Ticks, the first report, and one that differs by enough and not too soon. */
+    damper_flow_heard h = damper_flow_hear(fresh, DAMPER_FLOW_KIND_BROKEN, NAN);
+    CHECK(h.refusal == 0 && h.reported == 0 && h.state.since == 1);
+    h = damper_flow_hear(h.state, DAMPER_FLOW_KIND_FLOW, 60);
+    CHECK(h.refusal == 0 && h.reported == 0 && h.state.since == 2 && h.state.sent == 0);
+    h = damper_flow_hear(h.state, DAMPER_FLOW_KIND_SHARE, 0.25f);
+    CHECK(h.reported == 1 && h.flow == 50 && h.percent == 25);
+    CHECK(h.state.since == 0 && h.state.sent == 1 && h.state.last == 50);
+    h = damper_flow_hear(h.state, DAMPER_FLOW_KIND_FLOW, 200);
+    CHECK(h.reported == 0 && h.state.since == 1 && h.state.last == 50);
+    h.state.since = 2;
+    CHECK(damper_flow_hear(h.state, DAMPER_FLOW_KIND_FLOW, 60).reported == 1);
+    CHECK(damper_flow_hear(h.state, DAMPER_FLOW_KIND_FLOW, 40).reported == 1);
+    CHECK(damper_flow_hear(h.state, DAMPER_FLOW_KIND_FLOW, 59.5f).reported == 0);
+    CHECK(damper_flow_hear(h.state, DAMPER_FLOW_KIND_FLOW, 200).percent == 100);
+    h.state.since = 65535;
+    CHECK(damper_flow_hear(h.state, DAMPER_FLOW_KIND_BROKEN, 0).state.since == 65535);
+
+    /* Ends of the ranges, both in, and what is next to them. */
+    CHECK(flow_refusal(damper_flow_fresh(DAMPER_FLOW_MOST, 1, DAMPER_FLOW_TIME), DAMPER_FLOW_KIND_FLOW, DAMPER_FLOW_MOST) == 0);
+    CHECK(flow_refusal(damper_flow_fresh(1, 1, DAMPER_FLOW_TIME + 1), DAMPER_FLOW_KIND_FLOW, 0) == DAMPER_FLOW_REFUSAL_RECORD);
+    CHECK(flow_refusal(fresh, DAMPER_FLOW_KIND_FLOW, DAMPER_FLOW_MOST + 1) == DAMPER_FLOW_REFUSAL_READING);
+    const float below_0 = of_bits(0x80000001), below_1 = of_bits(0x3F7FFFFF), above_1 = of_bits(0x3F800001);
+    const float above_million = of_bits(0x49742401);
+    CHECK(flow_refusal(damper_flow_fresh(1, 1, 1), DAMPER_FLOW_KIND_FLOW, 0) == 0);
+    CHECK(flow_refusal(damper_flow_fresh(1e6f, 1e6f, 3600), DAMPER_FLOW_KIND_FLOW, 1e6f) == 0);
+    const struct {
+        float nominal, cov, last;
+        uint32_t time;
+        uint8_t sent;
+    } bad[] = {
+        {below_1, 1, 0, 1, 0}, {above_million, 1, 0, 1, 0}, {NAN, 1, 0, 1, 0}, {INFINITY, 1, 0, 1, 0},
+        {1, below_1, 0, 1, 0}, {1, above_million, 0, 1, 0}, {1, NAN, 0, 1, 0}, {1, INFINITY, 0, 1, 0},
+        {1, 1, below_0, 1, 0}, {1, 1, above_million, 1, 0}, {1, 1, NAN, 1, 1}, {1, 1, -INFINITY, 1, 0},
+        {1, 1, 0, 0, 0}, {1, 1, 0, 3601, 0}, {1, 1, 0, 65536 + 10, 0}, {1, 1, 0, 1, 2}, {1, 1, 0, 1, 255},
+    };
+    for (size_t i = 0; i < sizeof bad / sizeof *bad; i++) {
+        damper_flow d = damper_flow_fresh(bad[i].nominal, bad[i].cov, bad[i].time);
+        d.last = bad[i].last;
+        d.sent = bad[i].sent;
+        CHECK(flow_refusal(d, DAMPER_FLOW_KIND_FLOW, NAN) == DAMPER_FLOW_REFUSAL_RECORD);
+        CHECK(flow_refusal(d, DAMPER_FLOW_KIND_BROKEN, 0) == DAMPER_FLOW_REFUSAL_RECORD);
+    }
+    CHECK(flow_refusal(fresh, DAMPER_FLOW_KIND_FLOW, below_0) == DAMPER_FLOW_REFUSAL_READING);
+    CHECK(flow_refusal(fresh, DAMPER_FLOW_KIND_FLOW, above_million) == DAMPER_FLOW_REFUSAL_READING);
+    CHECK(flow_refusal(fresh, DAMPER_FLOW_KIND_FLOW, NAN) == DAMPER_FLOW_REFUSAL_READING);
+    CHECK(flow_refusal(fresh, DAMPER_FLOW_KIND_SHARE, 1) == 0);
+    CHECK(flow_refusal(fresh, DAMPER_FLOW_KIND_SHARE, above_1) == DAMPER_FLOW_REFUSAL_READING);
+    CHECK(flow_refusal(fresh, DAMPER_FLOW_KIND_SHARE, -NAN) == DAMPER_FLOW_REFUSAL_READING);
+    CHECK(flow_refusal(fresh, DAMPER_FLOW_KIND_BROKEN, NAN) == 0);
+    for (unsigned bit = 0; bit < 32; bit++)
+        if (1u << bit > DAMPER_FLOW_KIND_BROKEN)
+            CHECK(flow_refusal(fresh, 1u << bit | DAMPER_FLOW_KIND_BROKEN, 0) == DAMPER_FLOW_REFUSAL_READING);
+    CHECK(flow_refusal(fresh, 3, 0) == DAMPER_FLOW_REFUSAL_READING);
+
+    /* -0 is 0, and keeps its sign. */
+    h = damper_flow_hear(damper_flow_fresh(1, 1, 1), DAMPER_FLOW_KIND_FLOW, -0.0f);
+    CHECK(h.reported == 1 && signbit(h.flow) && signbit(h.state.last) && h.percent == 0);
+}
+
 /* Nothing in what the drive itself answers; each finding by a wrong answer, with those that follow from it. */
 static void audits(damper_drive fresh)
 {
@@ -1151,6 +1240,7 @@ int main(void)
     hall_bill(fresh);
     outlooks(fresh);
     audits(fresh);
+    flows();
     null_pointers(fresh);
     printf("header in %s: %u checks agree with the archives\n",
 #ifdef __cplusplus

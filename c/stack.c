@@ -45,6 +45,9 @@ static uint8_t (*volatile hall_event)(damper_drive *, size_t, const uint32_t *, 
 static uint8_t (*volatile hall_tick)(damper_drive *, size_t, uint32_t, uint32_t *, size_t);
 static uint8_t (*volatile hall_page)(const damper_drive *, size_t, uint8_t *, size_t);
 static uint8_t (*volatile hall_bill)(const damper_drive *, size_t, uint64_t, uint32_t *, size_t);
+static damper_flow (*volatile flow_fresh)(float, float, uint32_t);
+static bool (*volatile flow_well_formed)(damper_flow);
+static damper_flow_heard (*volatile flow_hear)(damper_flow, uint32_t, float);
 
 static damper_drive drive;
 static damper_stepped stepped;
@@ -59,6 +62,8 @@ static uint32_t codes[ROOM];
 static size_t records;
 static damper_drive row[DAMPER_HALL_MOST];
 static uint32_t list[DAMPER_HALL_MOST], numbers[DAMPER_HALL_MOST], shares[DAMPER_HALL_MOST];
+static damper_flow flow;
+static damper_flow_heard heard;
 static uint8_t answers[DAMPER_HALL_MOST], page[DAMPER_HALL_MOST * DAMPER_HALL_LINE], refusal;
 
 static void call_fresh(void) { drive = fresh(); }
@@ -80,6 +85,15 @@ static void call_hall_tick(void) { refusal = hall_tick(row, DAMPER_HALL_MOST, 8,
 static void call_hall_page(void) { refusal = hall_page(row, DAMPER_HALL_MOST, page, sizeof page); }
 static void call_hall_bill(void) { refusal = hall_bill(row, DAMPER_HALL_MOST, DAMPER_HALL_BILL, shares, DAMPER_HALL_MOST); }
 
+static void call_flow_fresh(void) { flow = flow_fresh(100, 1, 2); }
+static void call_flow_well_formed(void) { formed = flow_well_formed(flow); }
+
+/* The data bytes of the event as a reading of 0 to 255, or of 0 to 255 hundredths, which are refused from 101 on. */
+static void call_flow_hear(void)
+{
+    heard = flow_hear(flow, event[2] % 3, event[2] % 3 == DAMPER_FLOW_KIND_SHARE ? event[3] / 100.0f : event[3]);
+}
+
 #define POINT(pointer, function) pointer = archive ? function : (__typeof__(&function))nothing
 
 static void point(bool archive)
@@ -97,6 +111,9 @@ static void point(bool archive)
     POINT(hall_tick, damper_hall_tick);
     POINT(hall_page, damper_hall_page);
     POINT(hall_bill, damper_hall_bill);
+    POINT(flow_fresh, damper_flow_fresh);
+    POINT(flow_well_formed, damper_flow_well_formed);
+    POINT(flow_hear, damper_flow_hear);
 }
 
 /* A hall of fresh drives, the last of them damaged. */
@@ -111,7 +128,8 @@ static void fill_hall(void)
 
 /*
  * The bytes from the deepest one without paint on, after calls over the list of events from a fresh drive. Of the hall each
- * drive but the last becomes now and then what that drive is; the audit hears of each event what the event before was answered.
+ * drive but the last becomes now and then what that drive is; the audit hears of each event what the event before was answered;
+ * a flow box goes on from the call before, and is fresh at each eighth.
  */
 static size_t depth(void (*call)(void), bool archive, size_t calls, uint8_t paint)
 {
@@ -123,6 +141,7 @@ static size_t depth(void (*call)(void), bool archive, size_t calls, uint8_t pain
         event = events[i];
         row[i % (DAMPER_HALL_MOST - 1)] = drive;
         audit.drive = drive;
+        flow = i % 8 ? heard.state : damper_flow_fresh(100, 1, 2);
         on_stack(call);
         stepped = damper_step(drive, event, DAMPER_EVENT_LENGTH);
         drive = stepped.drive;
@@ -166,6 +185,9 @@ int main(void)
     measure("hall_tick", call_hall_tick, records, DAMPER_STACK);
     measure("hall_page", call_hall_page, records, DAMPER_STACK);
     measure("hall_bill", call_hall_bill, records, DAMPER_STACK);
+    measure("flow_fresh", call_flow_fresh, 1, DAMPER_STACK);
+    measure("flow_well_formed", call_flow_well_formed, records, DAMPER_STACK);
+    measure("flow_hear", call_flow_hear, records, DAMPER_STACK);
     printf("; DAMPER_STACK is %d, DAMPER_AUDIT_STACK %d\n", DAMPER_STACK, DAMPER_AUDIT_STACK);
     if (fits)
         return 0;

@@ -2,7 +2,7 @@
  * The air-damper drive of document 01 (after KNX chapter 7/10/3, block ADA), written and proved in Rattle, for hosts in
  * C11 and C++ on x86-64 Linux. Link libhost.a for single events, libhost_replay.a for damper_replay, libhall_event.a,
  * libhall_tick.a, libhall_page.a and libhall_bill.a for the four calls of a hall, libhost_audit.a for what a tick goes by and
- * for the audit of any drive's answers, or any of these together: none needs another.
+ * for the audit of any drive's answers, libhost_flow.a for flow boxes, or any of these together: none needs another.
  *
  * A drive is a record of 48 bytes, and the host holds it. The host gives it event records of six bytes, one after the
  * other: a tick each second, and setpoints, forcing, hand, calibration, faults, parameter writes, restarts and reads as
@@ -21,7 +21,15 @@
  * are. damper_hall_page and damper_hall_bill only read them: the one writes the shift page, a printed line for each drive, the
  * other shares a bill out by how far each damper has travelled.
  *
- * The record's layout has a number, DAMPER_LAYOUT, and in the archives each function's name ends in it: damper_step is
+ * A flow box is another maker's supply-air box, which measures flow: a record of 20 bytes that takes a reading each second and
+ * says when flow and percent are to be sent.
+ *
+ *     damper_flow_heard h = damper_flow_hear(box, DAMPER_FLOW_KIND_FLOW, 125);
+ *     box = h.state;
+ *     if (h.reported)
+ *         printf("%.9g m3/h, %u %%\n", (double)h.flow, h.percent);
+ *
+ * The layout of the records has a number, DAMPER_LAYOUT, and in the archives each function's name ends in it: damper_step is
  * damper_step_layout3 there. So a host that was built with a header of another layout does not link: the name that the linker
  * misses ends in that layout's number, or, from before layout 3, in none. It must be built again with this header. Layout 3 is
  * request W-208's, with the field `travel`; what was stored in layout 1 or 2, of 44 or 46 bytes, is taken over field by field,
@@ -31,14 +39,15 @@
  *   - A pointer is valid for its length; NULL will do for a length of 0. Bytes that are written to overlap no others that
  *     the call is lent, and nobody else uses them until it returns. Apart from that nothing is asked: any bytes are a
  *     record, any bytes of any length an event record.
- *   - It returns, and what it gives depends on its arguments alone. It has no state, allocates nothing, calls nothing
- *     outside its archive and writes nothing but its result and the bytes lent for it, so any thread and any signal handler
- *     may call it at any time.
+ *   - It returns, and what it gives depends on its arguments alone, of a flow box also on the processor's ways with floating
+ *     point, as said at libhost_flow.a. It has no state, allocates nothing, calls nothing outside its archive and writes nothing
+ *     but its result and the bytes lent for it, so any thread and any signal handler may call it at any time.
  *   - It takes at most DAMPER_STACK bytes of stack below the caller's frame, the red zone of the x86-64 ABI among them;
  *     damper_audit_hear, which is no work of every tick, at most DAMPER_AUDIT_STACK.
  *
  * Numbers are document 01's, those of a hall request W-201's, percents request W-202's, those of the shift page W-203's, those
- * of the quota W-204's, those of the bill W-208's. A position is 0 to 255, where 255 is 100 %; a time is in ticks of a second.
+ * of the quota W-204's, those of the bill W-208's, those of flow boxes W-209's. A position is 0 to 255, where 255 is 100 %; a
+ * time is in ticks of a second, and a flow in m3/h.
  */
 #ifndef DAMPER_H
 #define DAMPER_H
@@ -52,7 +61,7 @@ extern "C" {
 #endif
 
 /* The version of header and archives. */
-#define DAMPER_VERSION "0.3.0"
+#define DAMPER_VERSION "0.4.0"
 
 /* The layout of the record, and with it the names of the functions in the archives. */
 #define DAMPER_LAYOUT 3
@@ -69,6 +78,9 @@ extern "C" {
 #define damper_hall_tick damper_hall_tick_layout3
 #define damper_hall_page damper_hall_page_layout3
 #define damper_hall_bill damper_hall_bill_layout3
+#define damper_flow_fresh damper_flow_fresh_layout3
+#define damper_flow_well_formed damper_flow_well_formed_layout3
+#define damper_flow_hear damper_flow_hear_layout3
 
 /* A number to reckon with is a macro, one of a list an enumeration: C++ compilers object to reckoning with the latter. */
 #define DAMPER_EVENT_LENGTH 6 /* bytes of an event record */
@@ -79,6 +91,8 @@ extern "C" {
 #define DAMPER_HALL_LINE 29   /* bytes of a drive's line on the shift page, the line feed among them */
 #define DAMPER_HALL_QUOTA 64  /* reports that a hall tick may be asked to send, at most */
 #define DAMPER_HALL_BILL 1000000000 /* cents of a bill, at most */
+#define DAMPER_FLOW_MOST 1000000 /* m3/h: nominal flow, ActFlowCOV and any flow, at most */
+#define DAMPER_FLOW_TIME 3600 /* s: ActFlowMinRepTime, at most */
 
 /* An event record: these two bytes, the kind, then data bytes a, b and c, of which unused ones are 0. */
 #define DAMPER_MARK_0 0x5A
@@ -372,6 +386,49 @@ typedef struct damper_audited {
 } damper_audited;
 
 /*
+ * The record of a flow box. A host may store its 20 bytes (numbers have their low byte first, floats are IEEE 754's of 32 bits)
+ * and restore them: any bytes are a record, and one whose fields are not as said here is refused by 22. The fourth byte belongs
+ * to no field, is not looked at and may hold anything: set it to 0 where stored bytes are to be the same for the same record.
+ * Stored after each call and before what it reports is sent, a record lets no report come too early after power was lost, but the
+ * one that was about to be sent may be lost; stored afterwards, that one may be sent twice.
+ *
+ * A flow box knows no restart: a restored one goes on where it stood, and the time without power does not count. A host that wants
+ * the flow told again sets `sent` to 0. To change a setting it writes `time`, `nominal` or `cov`, and the next reading goes by
+ * it; that alone sends nothing, also where another nominal makes another percent of what was sent. What is said of one call holds
+ * of every record; what is proved of a whole list of readings, of a fresh one that nobody writes in between.
+ */
+typedef struct damper_flow {
+    uint16_t since; /* ticks since the last report, or since the record was fresh, stopping at 65,535 */
+    uint8_t sent;   /* flag: whether any was sent, 0 or 1 */
+    uint32_t time;  /* ActFlowMinRepTime: from one report to the next, at least; 1 to DAMPER_FLOW_TIME */
+    float nominal;  /* nominal flow, 1 to DAMPER_FLOW_MOST */
+    float cov;      /* ActFlowCOV: the change of flow that is reported, 1 to DAMPER_FLOW_MOST */
+    float last;     /* the last flow sent, 0 to DAMPER_FLOW_MOST; not looked at before the first report, but for its range */
+} damper_flow;
+
+/* The kinds of reading. */
+enum damper_flow_kind {
+    DAMPER_FLOW_KIND_FLOW = 0,  /* a flow, 0 to DAMPER_FLOW_MOST */
+    DAMPER_FLOW_KIND_SHARE = 1, /* a share of nominal, 0 to 1 */
+    DAMPER_FLOW_KIND_BROKEN = 2 /* the sensor is broken; its value is not looked at */
+};
+
+/* Why a reading is turned down: the first of these that fits. */
+enum damper_flow_refusal {
+    DAMPER_FLOW_REFUSAL_RECORD = 22, /* a field of the record is out of its range */
+    DAMPER_FLOW_REFUSAL_READING = 23 /* the value is not in the range of its kind, or a NaN, or the kind is none */
+};
+
+/* What damper_flow_hear gives. */
+typedef struct damper_flow_heard {
+    damper_flow state; /* the record after the reading; that before it, if the reading is turned down */
+    float flow;        /* of a report; else 0 */
+    uint8_t refusal;   /* 0, or enum damper_flow_refusal */
+    uint8_t reported;  /* flag: there is a report */
+    uint8_t percent;   /* of a report, 0 to 100; else 0 */
+} damper_flow_heard;
+
+/*
  * libhost.a
  */
 
@@ -513,6 +570,43 @@ uint8_t damper_hall_page(const damper_drive *row, size_t drives, uint8_t *page, 
  * exactly drives, otherwise by 21 if no drive has moved, and then the shares stay as they are. Records are never changed.
  */
 uint8_t damper_hall_bill(const damper_drive *row, size_t drives, uint64_t bill, uint32_t *shares, size_t places);
+
+/*
+ * libhost_flow.a
+ */
+
+/*
+ * Of these functions is assumed that the processor rounds to nearest, keeps subnormal numbers and has the exceptions of floating
+ * point masked, as it does where a program starts; a host that has set it otherwise (fesetround, feenableexcept, -ffast-math, a
+ * library that flushes to zero) sets it back for the call. Flushed to zero, shares below 1.2e-38 become the flow 0, and a reading
+ * just below 0 is taken. The flags of exceptions that the processor keeps may be set by a call.
+ */
+
+/*
+ * The fresh record of a flow box: since 0, nothing sent, 0 as last flow. Whatever the settings are, it is made; damper_flow_hear
+ * refuses bad ones.
+ */
+damper_flow damper_flow_fresh(float nominal, float cov, uint32_t time);
+
+/* Whether a record's fields are as their comments say, so that 22 does not refuse it. A reading leaves it so. */
+bool damper_flow_well_formed(damper_flow flow);
+
+/*
+ * Gives a flow box a reading, a kind and a value, and that is a tick. A share becomes a flow by one product with nominal. The
+ * first reading with a flow once `time` ticks have passed, its own counted, is reported, and from then on each whose flow differs
+ * from the last one sent by `cov` or more, `time` ticks after that one or later; no report goes out without a change. The percent
+ * of a report is the greatest whole number p from 0 to 100 for which p times nominal is not above 100 times the flow. Products
+ * and differences are those of single floats, each rounded once: 0.01 of nominal 1 shows 1, 0.53 of it 52. A broken sensor is a
+ * tick without report. A value of -0 is 0, and keeps its sign in report and record.
+ *
+ * Refused by 22 or else by 23, a reading is no tick, and the record comes back as it was. That holds of the bits of a NaN in it
+ * as well, though only by test: the proof has one NaN. A host that wants a second with a bad reading, or with none, counted gives
+ * BROKEN for it.
+ *
+ * A value that a host has as a double or as text is rounded to a float before the call sees it: 1.00000001 is a share of 1 then,
+ * and -1e-50 is -0, which is taken.
+ */
+damper_flow_heard damper_flow_hear(damper_flow flow, uint32_t kind, float value);
 
 /*
  * An answer taken apart. Each function says for which words it holds, and gives 0 for the others.
@@ -681,6 +775,19 @@ DAMPER_SIZE(damper_audited, 64);
 DAMPER_AT(damper_audited, audit, 0);
 DAMPER_AT(damper_audited, refusal, 52);
 DAMPER_AT(damper_audited, findings, 53);
+DAMPER_SIZE(damper_flow, 20);
+DAMPER_AT(damper_flow, since, 0);
+DAMPER_AT(damper_flow, sent, 2);
+DAMPER_AT(damper_flow, time, 4);
+DAMPER_AT(damper_flow, nominal, 8);
+DAMPER_AT(damper_flow, cov, 12);
+DAMPER_AT(damper_flow, last, 16);
+DAMPER_SIZE(damper_flow_heard, 28);
+DAMPER_AT(damper_flow_heard, state, 0);
+DAMPER_AT(damper_flow_heard, flow, 20);
+DAMPER_AT(damper_flow_heard, refusal, 24);
+DAMPER_AT(damper_flow_heard, reported, 25);
+DAMPER_AT(damper_flow_heard, percent, 26);
 
 #undef DAMPER_AT
 #undef DAMPER_SIZE

@@ -1,8 +1,10 @@
-//! Compiles the plain C drive, and writes the wrong drives and the false wordings of demand 3 and of W-207 that are
-//! the right ones with a piece of their text changed.
+//! Compiles the plain C drive, and writes the wrong drives, the wrong flow boxes and the false wordings of demand 3
+//! and of W-207 that are the right ones with a piece of their text changed.
 
 #[path = "edits/drives.rs"]
 mod drives;
+#[path = "edits/flows.rs"]
+mod flows;
 #[path = "edits/settle.rs"]
 mod settle;
 #[path = "edits/wordings.rs"]
@@ -32,6 +34,7 @@ fn main() {
     let source = |name| format!("{root}/src/{name}.rs");
     let target = |name| format!("{out}/{name}.rs");
     edited(&source("model"), drives::EDITS, false, &target("drives"));
+    edited(&source("flow"), flows::EDITS, false, &target("flows"));
     edited(&source("literal"), wordings::EDITS, true, &target("wordings"));
     edited(&source("settle/claim"), settle::EDITS, true, &target("settle"));
 }

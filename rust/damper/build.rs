@@ -12,7 +12,16 @@ fn main() {
     let here = PathBuf::from(env::var_os("CARGO_MANIFEST_DIR").unwrap());
     let folder = env::var_os(FOLDER).map_or_else(|| here.join("../../target/staticlib"), PathBuf::from);
     println!("cargo:rustc-link-search=native={}", folder.display());
-    for name in ["host", "host_replay", "host_audit", "hall_event", "hall_tick", "hall_page", "hall_bill"] {
+    for name in [
+        "host",
+        "host_replay",
+        "host_audit",
+        "host_flow",
+        "hall_event",
+        "hall_tick",
+        "hall_page",
+        "hall_bill",
+    ] {
         let archive = folder.join(format!("lib{name}.a"));
         if !archive.is_file() {
             eprintln!(

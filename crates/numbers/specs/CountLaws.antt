@@ -1,11 +1,14 @@
--- Laws of counts along a list: since against the ticks after a report, and of a stretch without report and restart.
-use mathlib.Core.Path.{_≡_, ap}
+-- Laws of counts along a list: since against the ticks after a report, and of stretches without report and restart.
+use mathlib.Core.Path.{_≡_, refl, sym, ap, subst, _∙_}
 use mathlib.Core.Bool.{Bool, true, false, _||_}
-use mathlib.Core.List.{List, [], _∷_, _++_}
-use Prim.Native.Nat.{ℕ, _+_, _≤_}
+use mathlib.Core.List.{List, [], _∷_, _++_, nil≢cons, head-eq-of-cons-eq, tail-eq-of-cons-eq}
+use Prim.Native.Nat.{ℕ, _+_, _-_, _≤_}
 use native.Mathlib.Omega.{arith}
+use lib.Dec.{eqb}
+use borrow.Author.Tests.{eqb-true, eqb-false}
 use Rattle.numbers.specs.Numbers.{pick}
-use Rattle.numbers.specs.Counts.{Test, ticksIn, Quiet, more, since}
+use Rattle.numbers.specs.Laws.{cases, or-left, or-right}
+use Rattle.numbers.specs.Counts.{Test, ticksIn, Quiet, none, more, since}
 
 step-most : (q b : Bool) (s n : ℕ) → s ≤ n → pick q 0 (pick b (s + 1) s) ≤ pick b (n + 1) n
 step-most true b s n p = omega arith
@@ -20,12 +23,15 @@ step-next : (b : Bool) (n s : ℕ) → n ≤ s → pick b (n + 1) n ≤ s + 1
 step-next true n s p = omega arith
 step-next false n s p = omega arith
 
-module _ {A : Type 0} where
-  head-eq : (x y : A) (l k : List A) → x ∷ l ≡ y ∷ k → x ≡ y
-  head-eq x y l k e = cc
+-- one tick more, or none, in a sum
+pub one-more : (b : Bool) (n c d : ℕ) → n + c ≡ d → pick b (n + 1) n + c ≡ pick b (d + 1) d
+one-more true n c d e = omega arith
+one-more false n c d e = e
 
-  tail-eq : (x y : A) (l k : List A) → x ∷ l ≡ y ∷ k → l ≡ k
-  tail-eq x y l k e = cc
+module _ {A : Type 0} where
+  pub nil-split : (l : List A) (x : A) (k : List A) → [] ≡ l ++ (x ∷ k) → ⊥
+  nil-split [] x k e = nil≢cons e
+  nil-split (y ∷ l) x k e = nil≢cons e
 
   module _ (tick report restart : Test A) where
     abbrev ticks : List A → List A → ℕ
@@ -47,6 +53,12 @@ module _ {A : Type 0} where
     since-least [] old q = omega arith
     since-least (m ∷ new) old (more p q qs) = rw (p, q) (step-least (tick m (new ++ old)) _ _ (since-least new old qs))
 
+    -- over such a stretch it rises by the ticks
+    pub since-over : (new old : List A) → Quiet report restart old new → count (new ++ old) ≡ ticks new old + count old
+    unfolding since ticksIn
+    since-over [] old q = omega arith
+    since-over (m ∷ new) old (more p q qs) = rw (p, q) (sym (one-more (tick m (new ++ old)) _ _ _ (sym (since-over new old qs))))
+
     -- a tick and a report before it are as many ticks apart as since has with that tick, or more
     pub report-apart : (m x : A) (t between old : List A) → t ≡ between ++ (x ∷ old) → report x old ≡ true → tick m t ≡ true
         → count t + 1 ≤ ticks (m ∷ between) (x ∷ old)
@@ -62,7 +74,59 @@ module _ {A : Type 0} where
     unfolding ticksIn
     quiet-last m t [] old e n q = absurd (omega arith)
     quiet-last m t (y ∷ b) old e n (more p q qs) =
-        let hd = head-eq m y t (b ++ old) e in
-        let tl = tail-eq m y t (b ++ old) e in
+        let hd : m ≡ y = head-eq-of-cons-eq e in
+        let tl : t ≡ b ++ old = tail-eq-of-cons-eq e in
         let least : ticks b old ≤ count t = rw tl (since-least b old qs) in
         (rw (hd, tl) p, rw (hd, tl) q, step-next (tick y (b ++ old)) _ _ least)
+
+-- a stretch of `n` ticks at the end of `t`, without restart and report
+pub record Stretch {A : Type 0} (tick report restart : Test A) (t : List A) (n : ℕ) : Type 0 where
+  pub new : List A
+  pub old : List A
+  pub split : t ≡ new ++ old
+  pub ticks : ticksIn tick new old ≡ n
+  pub quiet : Quiet report restart old new
+
+-- `n` ticks, not 0 and up to since: the last member is no report and no restart, and how many ticks are before it
+before-last : (z b : Bool) (n s : ℕ) → (n ≡ 0 → ⊥) → n ≤ pick z 0 (pick b (s + 1) s)
+    → (z ≡ false) × (pick b (n - 1) n ≤ s) × (pick b (pick b (n - 1) n + 1) (pick b (n - 1) n) ≡ n)
+before-last true b n s p h = absurd (p (omega arith))
+before-last false true n s p h = (refl, omega arith, omega arith)
+before-last false false n s p h = (refl, h, refl)
+
+module _ {A : Type 0} (tick : Test A) where
+  -- the ticks of a stretch with one member more
+  pub ticks-more : (m : A) (t new old : List A) → t ≡ new ++ old
+      → ticksIn tick (m ∷ new) old ≡ pick (tick m t) (ticksIn tick new old + 1) (ticksIn tick new old)
+  unfolding ticksIn
+  ticks-more m t new old e = rw e
+
+module _ {A : Type 0} (tick report restart : Test A) where
+  -- a stretch of no ticks, with nothing in it
+  stretch-none : (t : List A) (n : ℕ) → n ≡ 0 → Stretch tick report restart t n
+  unfolding ticksIn
+  stretch-none t n e = record { new = []; old = t; split = refl; ticks = sym e; quiet = none }
+
+  -- a stretch with one member more, which is neither report nor restart
+  stretch-more : (m : A) (t : List A) (n : ℕ) → report m t ≡ false → restart m t ≡ false → Stretch tick report restart t n
+      → Stretch tick report restart (m ∷ t) (pick (tick m t) (n + 1) n)
+  stretch-more m t n q p r =
+      record {
+        new = m ∷ r .new;
+        old = r .old;
+        split = ap (λ u. m ∷ u) (r .split);
+        ticks = ticks-more tick m t (r .new) (r .old) (r .split) ∙ rw (r .ticks);
+        quiet = more (rw (r .split) at p) (rw (r .split) at q) (r .quiet);
+      }
+
+  -- of any number of ticks up to since there is a stretch
+  pub since-stretch : (t : List A) (n : ℕ) → n ≤ since tick report restart t → Stretch tick report restart t n
+  unfolding since
+  since-stretch [] n h = stretch-none [] n (omega arith)
+  since-stretch (m ∷ t) n h =
+      cases (eqb n 0)
+      (λ z. stretch-none (m ∷ t) n (eqb-true n 0 z))
+      (λ z.
+      let s = before-last (report m t || restart m t) (tick m t) n _ (eqb-false n 0 z) h in
+      subst (Stretch tick report restart (m ∷ t)) (s .2)
+      (stretch-more m t _ (or-left (report m t) _ (s .0)) (or-right (report m t) _ (s .0)) (since-stretch t _ (s .1))))

@@ -3,6 +3,7 @@
 pub mod Numbers
 pub mod Laws
 pub mod FlagLaws
+pub mod Says
 pub mod Places
 pub mod PlaceLaws
 pub mod Counts

@@ -1,14 +1,13 @@
--- Counts along a list, the latest first: how near the latest report is, and stretches of a given number of ticks.
+-- Counts along a list, the latest first: how near the latest report is.
 use mathlib.Core.Path.{_≡_, refl, sym, ap, subst, _∙_}
-use mathlib.Core.Bool.{Bool, true, false, _||_, false≢true}
+use mathlib.Core.Bool.{Bool, true, false, false≢true}
 use mathlib.Core.List.{List, [], _∷_, _++_}
-use Prim.Native.Nat.{ℕ, _+_, _-_, _<_, _≤_}
+use Prim.Native.Nat.{ℕ, _+_, _<_, _≤_}
 use native.Mathlib.Omega.{arith}
-use lib.Dec.{eqb}
-use borrow.Author.Tests.{eqb-true, eqb-false}
 use Rattle.numbers.specs.Numbers.{pick, next}
-use Rattle.numbers.specs.Laws.{cases, or-left, or-right}
-use Rattle.numbers.specs.Counts.{Test, ticksIn, Quiet, none, more, since}
+use Rattle.numbers.specs.Laws.{cases}
+use Rattle.numbers.specs.Counts.{Test, ticksIn}
+use Rattle.numbers.specs.CountLaws.{ticks-more}
 
 -- the ticks after the latest report, past restarts: a count that stops at 65,535, and as many where there is no report
 unfoldable pub apart : {A : Type 0} → Test A → Test A → List A → ℕ
@@ -24,14 +23,6 @@ record Reported {A : Type 0} (tick report : Test A) (t : List A) (n : ℕ) : Typ
   pub reports : report member old ≡ true
   pub ticks : ticksIn tick between (member ∷ old) ≡ n
 
--- a stretch of `n` ticks at the end of `t`, without restart and report
-pub record Stretch {A : Type 0} (tick report restart : Test A) (t : List A) (n : ℕ) : Type 0 where
-  pub new : List A
-  pub old : List A
-  pub split : t ≡ new ++ old
-  pub ticks : ticksIn tick new old ≡ n
-  pub quiet : Quiet report restart old new
-
 -- one tick more, capped and not, keeps the order
 next-most : (q b : Bool) (n k : ℕ) → n ≤ k → pick q 0 (pick b (next n) n) ≤ pick b (k + 1) k
 next-most true b n k p = omega arith
@@ -45,13 +36,6 @@ below-cap true b n h e = absurd (false≢true (sym e))
 below-cap false true n h e = (omega arith, omega arith)
 below-cap false false n h e = (h, refl)
 
--- `n` ticks, not 0 and up to since: the last member is no report and no restart, and how many ticks are before it
-before-last : (z b : Bool) (n s : ℕ) → (n ≡ 0 → ⊥) → n ≤ pick z 0 (pick b (s + 1) s)
-    → (z ≡ false) × (pick b (n - 1) n ≤ s) × (pick b (pick b (n - 1) n + 1) (pick b (n - 1) n) ≡ n)
-before-last true b n s p h = absurd (p (omega arith))
-before-last false true n s p h = (refl, omega arith, omega arith)
-before-last false false n s p h = (refl, h, refl)
-
 module _ {A : Type 0} (tick report : Test A) where
   -- every report is at least as many ticks away as the latest one
   apart-most : (between : List A) (x : A) (old : List A) → report x old ≡ true
@@ -59,12 +43,6 @@ module _ {A : Type 0} (tick report : Test A) where
   unfolding apart ticksIn
   apart-most [] x old r = rw r (omega arith)
   apart-most (m ∷ b) x old r = next-most (report m (b ++ (x ∷ old))) (tick m (b ++ (x ∷ old))) _ _ (apart-most b x old r)
-
-  -- the ticks of a stretch with one member more
-  ticks-more : (m : A) (t new old : List A) → t ≡ new ++ old
-      → ticksIn tick (m ∷ new) old ≡ pick (tick m t) (ticksIn tick new old + 1) (ticksIn tick new old)
-  unfolding ticksIn
-  ticks-more m t new old e = rw e
 
   -- a report with one member more after it
   report-more : (m : A) (t : List A) (n : ℕ) → Reported tick report t n → Reported tick report (m ∷ t) (pick (tick m t) (n + 1) n)
@@ -75,7 +53,7 @@ module _ {A : Type 0} (tick report : Test A) where
         old = r .old;
         split = ap (λ u. m ∷ u) (r .split);
         reports = r .reports;
-        ticks = ticks-more m t (r .between) (r .member ∷ r .old) (r .split) ∙ rw (r .ticks);
+        ticks = ticks-more tick m t (r .between) (r .member ∷ r .old) (r .split) ∙ rw (r .ticks);
       }
 
   -- below the cap there is a report that is so many ticks away
@@ -97,7 +75,7 @@ module _ {A : Type 0} (tick report : Test A) where
   pub apart-least : (m : A) (t between : List A) (x : A) (old : List A) → t ≡ between ++ (x ∷ old) → report x old ≡ true
       → apart-with m t ≤ ticksIn tick (m ∷ between) (x ∷ old)
   apart-least m t between x old e r =
-      rw (ticks-more m t between (x ∷ old) e) (next-most false (tick m t) _ _ (rw e (apart-most between x old r)))
+      rw (ticks-more tick m t between (x ∷ old) e) (next-most false (tick m t) _ _ (rw e (apart-most between x old r)))
 
   -- where these ticks are fewer than `n`, there is a report that is fewer than `n` ticks apart
   pub apart-near : (m : A) (t : List A) (n : ℕ) → n ≤ 65535 → apart-with m t < n
@@ -106,35 +84,5 @@ module _ {A : Type 0} (tick report : Test A) where
   apart-near m t n cap h =
       let c = below-cap false (tick m t) (apart tick report t) (omega arith) refl in
       let r = apart-reported t (c .0) in
-      let e = ticks-more m t (r .between) (r .member ∷ r .old) (r .split) in
+      let e = ticks-more tick m t (r .between) (r .member ∷ r .old) (r .split) in
       (r .between, r .member, r .old, r .split, r .reports, rw (e, r .ticks, c .1) h)
-
-module _ {A : Type 0} (tick report restart : Test A) where
-  -- a stretch of no ticks, with nothing in it
-  stretch-none : (t : List A) (n : ℕ) → n ≡ 0 → Stretch tick report restart t n
-  unfolding ticksIn
-  stretch-none t n e = record { new = []; old = t; split = refl; ticks = sym e; quiet = none }
-
-  -- a stretch with one member more, which is neither report nor restart
-  stretch-more : (m : A) (t : List A) (n : ℕ) → report m t ≡ false → restart m t ≡ false → Stretch tick report restart t n
-      → Stretch tick report restart (m ∷ t) (pick (tick m t) (n + 1) n)
-  stretch-more m t n q p r =
-      record {
-        new = m ∷ r .new;
-        old = r .old;
-        split = ap (λ u. m ∷ u) (r .split);
-        ticks = ticks-more tick report m t (r .new) (r .old) (r .split) ∙ rw (r .ticks);
-        quiet = more (rw (r .split) at p) (rw (r .split) at q) (r .quiet);
-      }
-
-  -- of any number of ticks up to since there is a stretch
-  pub since-stretch : (t : List A) (n : ℕ) → n ≤ since tick report restart t → Stretch tick report restart t n
-  unfolding since
-  since-stretch [] n h = stretch-none [] n (omega arith)
-  since-stretch (m ∷ t) n h =
-      cases (eqb n 0)
-      (λ z. stretch-none (m ∷ t) n (eqb-true n 0 z))
-      (λ z.
-      let s = before-last (report m t || restart m t) (tick m t) n _ (eqb-false n 0 z) h in
-      subst (Stretch tick report restart (m ∷ t)) (s .2)
-      (stretch-more m t _ (or-left (report m t) _ (s .0)) (or-right (report m t) _ (s .0)) (since-stretch t _ (s .1))))

@@ -9,7 +9,7 @@ use borrow.Author.Tests.{ltb-true, ltb-false, leb-true, le-leb, eqb-true, eqb-fa
 use Rattle.numbers.specs.Numbers.{pick, distance, next}
 use Rattle.numbers.specs.Laws.{and-left, and-right, not-false}
 use Rattle.numbers.specs.Counts as Counts
-use Rattle.numbers.specs.CountLaws.{quiet-last}
+use Rattle.numbers.specs.CountLaws.{quiet-last, since-stretch}
 use Rattle.table.specs.Table.{minRepTime, actPosCov}
 use Rattle.event.specs.Event.{eventIn}
 use Rattle.motion.specs.Motion.{toward}
@@ -19,7 +19,7 @@ use Rattle.history.specs.Readings as R
 use Rattle.history.specs.Claim as C
 use Rattle.history.specs.Waits.{same-sent, silent-in}
 use Rattle.recording.specs.Recording.{Tells}
-use Rattle.recording.specs.Counts.{apart, apart-least, apart-near, since-stretch}
+use Rattle.recording.specs.Counts.{apart, apart-least, apart-near}
 
 -- a finding tells of its sentence what it is shown to, where it is true and where it is false
 tells : (b : Bool) {S : Type 0} → (b ≡ true → S → ⊥) → (b ≡ false → S) → Tells b S

@@ -10,6 +10,7 @@ use lib.ListN.{getD}
 use borrow.Author.Tests.{ltb-true, ltb-false, eqb-true, eqb-false, eq-eqb}
 use Rattle.numbers.specs.Numbers.{pick, next}
 use Rattle.numbers.specs.Laws.{cases, and-left, and-right, and-intro}
+use Rattle.numbers.specs.Says.{Says, unset, negated, both, equal, below, at-most}
 use Rattle.table.specs.Table.{minRepTime, rate}
 use Rattle.event.specs.Event.{eventIn, badKind, kindIn, recordRefusal}
 use Rattle.event.specs.Laws.{record-passed, admitted}
@@ -44,7 +45,7 @@ use Rattle.sentences.specs.Exists.{some-tick}
 use Rattle.sentences.specs.Forms.{same-formed}
 use Rattle.sentences.specs.Events as Events
 use Rattle.sentences_claim.specs.Paper as S
-use Rattle.sentences_claim.specs.Tests.{Says, unset, negated, both, equal, below, at-most, same-number, new-flag, gives-report}
+use Rattle.sentences_claim.specs.Tests.{same-number, new-flag, gives-report}
 use Rattle.sentences_claim.specs.Holds.{moved-is}
 
 -- ── What an answer says ──

@@ -2,21 +2,33 @@
 use mathlib.Core.Path.{_≡_, refl, sym, ap, subst, _∙_}
 use mathlib.Core.Logic.{_↔_}
 use mathlib.Core.Bool.{Bool, true, false, _||_, or-true}
-use mathlib.Core.List.{List, [], _∷_, _++_, append-nil, nil≢cons}
+use mathlib.Core.List.{[], _∷_, _++_, append-nil, head-eq-of-cons-eq, tail-eq-of-cons-eq}
 use Prim.Native.Nat.{ℕ, zero, suc, _+_}
 use native.Mathlib.Omega.{arith}
 use lib.Dec.{eqb}
 use lib.ListN.{getD}
 use Rattle.numbers.specs.Numbers.{pick}
+use Rattle.numbers.specs.Says.{unset}
 use Rattle.numbers.specs.Laws.{cases, or-left, or-right}
 use Rattle.numbers.specs.Counts as Counts
+use Rattle.numbers.specs.CountLaws.{one-more, nil-split, since-over}
 use Rattle.rules.specs.Report.{Sent, silent, sent}
 use Rattle.history.specs.Readings as R
 use Rattle.history.specs.Claim as C
 use Rattle.history.specs.Waits.{silent-in}
 use Rattle.sentences.specs.Shows.{one}
 use Rattle.sentences_claim.specs.Paper as S
-use Rattle.sentences_claim.specs.Tests.{unset, same-restart, reports, report-gives, gives-in}
+use Rattle.sentences_claim.specs.Tests.{same-restart, reports, report-gives, gives-in}
+
+-- by what the records of a trace are counted
+abbrev pub ticks : Counts.Test C.Moment
+ticks = C.acceptedAs R.isTick
+
+abbrev pub restarts : Counts.Test C.Moment
+restarts = C.acceptedAs R.isRestart
+
+abbrev pub reported : Counts.Test C.Moment
+reported m t = C.reports m
 
 -- ── The clock ──
 
@@ -28,10 +40,6 @@ clock-more m t =
     (λ j. cases (eqb (getD (m .bytes) 2 0) 1) (λ k. rw (j, k) (omega arith)) (λ k. rw (j, k) (omega arith)))
     (λ j. rw j)
 
-one-more : (b : Bool) (n c d : ℕ) → n + c ≡ d → pick b (n + 1) n + c ≡ pick b (d + 1) d
-one-more true n c d e = omega arith
-one-more false n c d e = e
-
 -- "ticks after the first, up to and with the second": what the clock has gone on
 pub ticks-clock : (new old : C.Trace) → C.ticksIn new old + S.clock old ≡ S.clock (new ++ old)
 unfolding Counts.ticksIn
@@ -40,24 +48,13 @@ ticks-clock (m ∷ new) old = one-more (C.acceptedAs R.isTick m (new ++ old)) _ 
 
 -- ── Without restart and report ──
 
-module _ {A : Type 0} where
-  pub nil-split : (l : List A) (x : A) (k : List A) → [] ≡ l ++ (x ∷ k) → ⊥
-  nil-split [] x k e = nil≢cons e
-  nil-split (y ∷ l) x k e = nil≢cons e
-
-  pub head-eq : {x y : A} {l k : List A} → x ∷ l ≡ y ∷ k → x ≡ y
-  head-eq e = cc
-
-  pub tail-eq : {x y : A} {l k : List A} → x ∷ l ≡ y ∷ k → l ≡ k
-  tail-eq e = cc
-
 pub quiet-without : (old new : C.Trace) → C.Quiet old new → S.Without old new
 quiet-without old [] q later x earlier e = absurd (nil-split later x earlier e)
 quiet-without old (m ∷ new) (Counts.more p q qs) [] x earlier e =
-    let hd : m ≡ x = head-eq e in
-    let tl : new ≡ earlier = tail-eq e in
+    let hd : m ≡ x = head-eq-of-cons-eq e in
+    let tl : new ≡ earlier = tail-eq-of-cons-eq e in
     rw (← hd, ← tl) (unset _ (same-restart m (new ++ old)) .0 p, unset _ (reports m) .0 q)
-quiet-without old (m ∷ new) (Counts.more p q qs) (y ∷ later) x earlier e = quiet-without old new qs later x earlier (tail-eq e)
+quiet-without old (m ∷ new) (Counts.more p q qs) (y ∷ later) x earlier e = quiet-without old new qs later x earlier (tail-eq-of-cons-eq e)
 
 pub without-quiet : (old new : C.Trace) → S.Without old new → C.Quiet old new
 without-quiet old [] w = Counts.none
@@ -78,13 +75,6 @@ without-more m t new old e r q w =
 
 -- ── The ticks since ──
 
--- over a stretch without restart and report it rises by the ticks
-since-over : (new old : C.Trace) → C.Quiet old new → C.since (new ++ old) ≡ C.ticksIn new old + C.since old
-unfolding Counts.since Counts.ticksIn
-since-over [] old q = omega arith
-since-over (m ∷ new) old (Counts.more p q qs) =
-    rw (p, q) (sym (one-more (C.acceptedAs R.isTick m (new ++ old)) _ _ _ (sym (since-over new old qs))))
-
 since-report : (x : C.Moment) (old : C.Trace) → S.Reports x → C.since (x ∷ old) ≡ 0
 unfolding Counts.since
 since-report x old r = rw (reports x .1 r)
@@ -98,7 +88,7 @@ since-after : (t new : C.Trace) (x : C.Moment) (old : C.Trace) (n : ℕ) → t �
     → S.Without (x ∷ old) new → S.clock t ≡ S.clock (x ∷ old) + n → C.since t ≡ n
 since-after t new x old n e z w c =
     let a : C.since t ≡ C.since (new ++ (x ∷ old)) = ap C.since e in
-    let b = since-over new (x ∷ old) (without-quiet (x ∷ old) new w) in
+    let b = since-over ticks reported restarts new (x ∷ old) (without-quiet (x ∷ old) new w) in
     let g = ticks-clock new (x ∷ old) in
     let k : S.clock t ≡ S.clock (new ++ (x ∷ old)) = ap S.clock e in
     omega arith
@@ -106,7 +96,7 @@ since-after t new x old n e z w c =
 pub since-only : {t : C.Trace} {n : ℕ} → S.Since t n → C.since t ≡ n
 unfolding Counts.since C.accepted
 since-only {t} (S.beginning w c) =
-    let b = rw append-nil at (since-over t [] (without-quiet [] t w)) in
+    let b = rw append-nil at (since-over ticks reported restarts t [] (without-quiet [] t w)) in
     let g = rw append-nil at (ticks-clock t []) in
     omega arith
 since-only {t} {n} (S.after-report new x old e r w c) = since-after t new x old n e (since-report x old r) w c

@@ -11,8 +11,9 @@ use lib.Seq.{drop-append-seam}
 use borrow.Author.Tests.{eqb-true, eqb-false, eq-eqb}
 use Rattle.numbers.specs.Numbers.{distance}
 use Rattle.numbers.specs.Laws.{cases}
+use Rattle.numbers.specs.Says.{Says, unset, same-flags}
 use Rattle.numbers.specs.Counts as Counts
-use Rattle.numbers.specs.CountLaws.{quiet-last}
+use Rattle.numbers.specs.CountLaws.{quiet-last, since-stretch}
 use Rattle.table.specs.Table.{minRepTime, actPosCov, rate}
 use Rattle.event.specs.declared.Event.{Event}
 use Rattle.event.specs.Event.{eventIn, dataRefusal}
@@ -33,17 +34,16 @@ use Rattle.history.specs.Agree.{Agrees, agrees-applied}
 use Rattle.history.specs.Facts.{time-range}
 use Rattle.history.specs.Waits.{same-sent, silent-in}
 use Rattle.history.specs.Theorem.{fresh-good}
-use Rattle.recording.specs.Counts.{since-stretch}
 use Rattle.recording.specs.Told.{move-told}
 use Rattle.sentences.specs.Paper as P
 use Rattle.sentences.specs.Ticks.{same-move}
 use Rattle.sentences.specs.Exists.{some-move}
 use Rattle.sentences.specs.Rules.{same-due-silent, same-due-sent}
 use Rattle.sentences_claim.specs.Paper as S
-use Rattle.sentences_claim.specs.Tests.{Says, unset, same-flags, same-tick, same-restart, no-restart, reports, same-before}
+use Rattle.sentences_claim.specs.Tests.{same-tick, same-restart, no-restart, reports, same-before}
 use Rattle.sentences_claim.specs.Tests.{events-are, events-only, report-gives, gives-report, gives-in, same-number, number-one}
 use Rattle.sentences_claim.specs.Tests.{new-flag}
-use Rattle.sentences_claim.specs.Counts.{ticks-clock, since-is, since-only, last-only, some-last, sentOf}
+use Rattle.sentences_claim.specs.Counts.{ticks, restarts, reported, ticks-clock, since-is, since-only, last-only, some-last, sentOf}
 
 -- ── MinRepTime is from 1 to 3,600 after every trace ──
 
@@ -94,16 +94,6 @@ distances p t r x = (
 )
 
 -- ── One record after a trace ──
-
--- by what the records of a trace are counted
-abbrev ticks : Counts.Test C.Moment
-ticks = C.acceptedAs R.isTick
-
-abbrev restarts : Counts.Test C.Moment
-restarts = C.acceptedAs R.isRestart
-
-abbrev reported : Counts.Test C.Moment
-reported m t = C.reports m
 
 module _ (m : C.Moment) (t : C.Trace) where
   abbrev now : List Event

@@ -2,7 +2,7 @@
 use mathlib.Core.Path.{_≡_, refl, sym, ap, _∙_}
 use mathlib.Core.Logic.{_↔_}
 use mathlib.Core.Bool.{Bool, true, false, false≢true}
-use mathlib.Core.List.{List, [], _∷_, _++_, append-nil}
+use mathlib.Core.List.{List, [], _∷_, _++_, append-nil, head-eq-of-cons-eq, tail-eq-of-cons-eq}
 use Prim.Native.Nat.{ℕ, suc}
 use native.Mathlib.Omega.{arith}
 use lib.ListN.{length}
@@ -18,7 +18,7 @@ use Rattle.recording.specs.Follows.{Follows, fresh-follows}
 use Rattle.recording.specs.Theorem.{told-next, follows-next}
 use Rattle.sentences_claim.specs.Paper as S
 use Rattle.sentences_claim.specs.Tests.{same-before}
-use Rattle.sentences_claim.specs.Counts.{nil-split, head-eq, tail-eq}
+use Rattle.numbers.specs.CountLaws.{nil-split}
 use Rattle.sentences_claim.specs.Holds as Holds
 
 shown-is : {p : ℕ} {y : Answer} {q : ℕ} → S.Shows p y q → shownIn p y ≡ q
@@ -157,12 +157,12 @@ told-more : (t : C.Trace) (z : Heard) (l : List Heard) (g : Findings) (fs : List
     → z ∷ l ≡ front ++ (x ∷ rest) → g ∷ fs ≡ before ++ (f ∷ behind) → length before ≡ length front
     → Told (heardAs (traceFrom t front) x) (traceFrom t front) f
 unfolding traceFrom
-told-more t z l g fs k more [] x rest [] f behind e h n = told-first t x z f g (head-eq e) (head-eq h) k
+told-more t z l g fs k more [] x rest [] f behind e h n = told-first t x z f g (head-eq-of-cons-eq e) (head-eq-of-cons-eq h) k
 told-more t z l g fs k more [] x rest (b ∷ before) f behind e h n = absurd (omega arith)
 told-more t z l g fs k more (y ∷ front) x rest [] f behind e h n = absurd (omega arith)
 told-more t z l g fs k more (y ∷ front) x rest (b ∷ before) f behind e h n =
-    let same : z ≡ y = head-eq e in
-    rw (← same) (more .each front x rest before f behind (tail-eq e) (tail-eq h) (omega arith))
+    let same : z ≡ y = head-eq-of-cons-eq e in
+    rw (← same) (more .each front x rest before f behind (tail-eq-of-cons-eq e) (tail-eq-of-cons-eq h) (omega arith))
 
 told-at : (l : List Heard) (t : C.Trace) (fs : List Findings) → ToldFrom t l fs → ToldAt t l fs
 unfolding traceFrom

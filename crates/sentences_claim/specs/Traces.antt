@@ -1,12 +1,13 @@
 -- Proofs: the claim at each place of a trace, the trace of a drive, and its log.
 use mathlib.Core.Path.{_≡_, refl, sym, ap, subst, _∙_}
 use mathlib.Core.Logic.{_↔_}
-use mathlib.Core.List.{List, [], _∷_, _++_, append-nil, nil≢cons}
+use mathlib.Core.List.{List, [], _∷_, _++_, append-nil, nil≢cons, head-eq-of-cons-eq, tail-eq-of-cons-eq}
 use Prim.Native.Nat.{ℕ, zero, suc, _+_, _≤_}
 use native.Mathlib.Omega.{arith}
 use native.Mathlib.Numerals.{add-one}
 use lib.ListN.{length, drop, length-append}
 use lib.Seq.{drop-nil, drop-drop, append-snoc}
+use Rattle.numbers.specs.Says.{unset}
 use Rattle.numbers.specs.Laws.{cases}
 use Rattle.event.specs.declared.Event.{Event}
 use Rattle.damper.specs.declared.Drive.{Drive}
@@ -26,8 +27,7 @@ use Rattle.history.specs.LogLaws.{log-read}
 use Rattle.recording.specs.Recording.{recordingOf}
 use Rattle.sentences.specs.Paper as P
 use Rattle.sentences_claim.specs.Paper as S
-use Rattle.sentences_claim.specs.Tests.{unset, reports, report-gives, gives-in, same-events}
-use Rattle.sentences_claim.specs.Counts.{head-eq, tail-eq}
+use Rattle.sentences_claim.specs.Tests.{reports, report-gives, gives-in, same-events}
 use Rattle.sentences_claim.specs.Holds.{same-holds, same-hall-holds}
 
 -- ── At each place ──
@@ -35,8 +35,8 @@ use Rattle.sentences_claim.specs.Holds.{same-holds, same-hall-holds}
 module _ (Here : C.Moment → C.Trace → Type 0) where
   first-place : (x m : C.Moment) (t old : C.Trace) → x ∷ t ≡ m ∷ old → Here x t → Here m old
   first-place x m t old e h =
-      let hd : x ≡ m = head-eq e in
-      let tl : t ≡ old = tail-eq e in
+      let hd : x ≡ m = head-eq-of-cons-eq e in
+      let tl : t ≡ old = tail-eq-of-cons-eq e in
       rw (← hd, ← tl) h
 
   pub places-more : (x : C.Moment) (t : C.Trace) → Here x t → S.Everywhere Here t → S.Everywhere Here (x ∷ t)

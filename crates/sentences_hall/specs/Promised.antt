@@ -2,7 +2,7 @@
 use mathlib.Core.Path.{_≡_, refl, sym, ap, subst, _∙_}
 use mathlib.Core.Logic.{_↔_}
 use mathlib.Core.Bool.{Bool, true, false, false≢true}
-use mathlib.Core.List.{List, [], _∷_, _++_, map, reverse, append-nil, nil≢cons}
+use mathlib.Core.List.{List, [], _∷_, _++_, map, reverse, append-nil, nil≢cons, head-eq-of-cons-eq, tail-eq-of-cons-eq}
 use Prim.Native.Nat.{ℕ, zero, suc, _+_, _*_, _≤_, _<_, min}
 use native.Mathlib.Omega.{arith}
 use lib.Dec.{eqb}
@@ -45,7 +45,7 @@ use Rattle.sentences_list.specs.Moves.{capped}
 use Rattle.sentences_list.specs.Sentences.{history, travel}
 use Rattle.sentences_claim.specs.Paper as S
 use Rattle.sentences_claim.specs.Tests as Tests
-use Rattle.sentences_claim.specs.Counts.{head-eq, tail-eq, ticks-clock}
+use Rattle.sentences_claim.specs.Counts.{ticks-clock}
 use Rattle.sentences_claim.specs.Holds.{same-waiting}
 use Rattle.sentences_claim.specs.Traces.{same-hall-claim}
 use Rattle.sentences_claim.specs.Arrives as Arrives
@@ -245,11 +245,11 @@ module _ (So : ℕ → (ℕ → Bool) → List Drive → Type 0) where
       → So quota sends row)
       → P.AtEachTick So (after row c) cs → P.AtEachTick So row (c ∷ cs)
   at-each row c cs first later [] quota sends room rest e ok =
-      subst (So quota sends) (sym (Shared.none-after row)) (first quota sends room (head-eq e) ok)
+      subst (So quota sends) (sym (Shared.none-after row)) (first quota sends room (head-eq-of-cons-eq e) ok)
   at-each row c cs first later (b ∷ before) quota sends room rest e ok =
-      let same : c ≡ b = head-eq e in
+      let same : c ≡ b = head-eq-of-cons-eq e in
       subst (So quota sends) (sym (Shared.more-after row c before) ∙ ap (λ (x : Call). hallAfter hallStep row (x ∷ before)) same)
-      (later before quota sends room rest (tail-eq e)
+      (later before quota sends room rest (tail-eq-of-cons-eq e)
       (subst (λ (m : ℕ). P.answerTo m (tick quota sends room) ≡ 0) (sym (after-length row c)) ok))
 
 -- each sends whom it may
@@ -537,4 +537,4 @@ finds-due row cs i quota sends room h fresh a ok m t g k b =
     same-due-now (at (hallAfter hallStep row cs) i) .0
     (r .1 (λ w.
     b (subst (S.Waiting m) (only row i h g)
-    (subst (λ (x : Moment). S.Waiting x (shareTrace row i cs)) (head-eq same) (same-waiting _ (shareTrace row i cs) .0 w)))))
+    (subst (λ (x : Moment). S.Waiting x (shareTrace row i cs)) (head-eq-of-cons-eq same) (same-waiting _ (shareTrace row i cs) .0 w)))))

@@ -1,8 +1,10 @@
-//! Times of the proved drive and hall, of the second implementation and of the plain C drive, side by side:
-//! they alternate, and the median of the rounds counts.
+//! Times of the proved drive and hall, of the second implementation and of the plain C drive, and of the
+//! proved flow box and a plain one in Rust, side by side: they alternate, and the median of the rounds
+//! counts.
 
 use crate::event::Event;
-use crate::gen::{leave_to_backup_value, records};
+use crate::flows::plain;
+use crate::gen::{leave_to_backup_value, records, Rng};
 use crate::hall::{HallModel, LINE};
 use crate::model::Model;
 use crate::plain::Plain;
@@ -10,7 +12,7 @@ use crate::proved::Proved;
 use crate::replays::{model_replay, proved_replay};
 use crate::subject::{Hall, Subject};
 use crate::table::Param;
-use damper::{Answer, Drive, HALL_MOST};
+use damper::{Answer, Drive, FlowBox, FlowRefusal, FlowReport, Reading, HALL_MOST};
 use std::fs::File;
 use std::hint::black_box;
 use std::io;
@@ -39,8 +41,11 @@ fn sample(what: &str, n: usize) -> Vec<u8> {
 /// For a count of instructions, by `proved`, `model`, `plain` or none of them: a replay of n records; or, as
 /// `hall`, `backup`, `list`, `page` or `bill`, hall ticks with quota 64, of any drives or of those that
 /// BackupValue rules, event calls, shift pages or bills for n drives, 64 in a call. Of `plain` there are no
-/// bills.
+/// bills. As `flow`, n readings to a flow box, of which `model` is the plain one in Rust, by value.
 pub fn spend(who: &str, what: &str, n: usize) {
+    if what == "flow" {
+        return spend_on_flow(who, n);
+    }
     if matches!(what, "hall" | "backup" | "list" | "page" | "bill") {
         return spend_on_halls(who, what, n);
     }
@@ -80,6 +85,16 @@ fn spend_on_halls(who: &str, what: &str, n: usize) {
     black_box((rows, numbers, answers, page));
 }
 
+fn spend_on_flow(who: &str, n: usize) {
+    let (fresh, readings) = readings("mixed", n);
+    let left = match who {
+        "proved" => hear_all(fresh, &readings, FlowBox::hear),
+        "model" => hear_all(fresh, &readings, plain::hear_by_value),
+        _ => (fresh, 0),
+    };
+    black_box(left);
+}
+
 fn median(mut values: Vec<f64>) -> f64 {
     values.sort_by(f64::total_cmp);
     values[values.len() / 2]
@@ -113,9 +128,14 @@ impl<const N: usize> Rounds<N> {
     }
 
     fn show(&self, what: &str, each: &str) {
-        const NAMES: [&str; 3] = ["Rattle", "Rust", "plain C"];
-        let times: Vec<_> = (0..N).map(|i| format!("{} {:.1} ns", NAMES[i], self.median(i))).collect();
-        let ratios: Vec<_> = (1..N).map(|i| format!("{:.2} of {}", self.ratio(i), NAMES[i])).collect();
+        self.show_beside(["Rust", "plain C"], what, each);
+    }
+
+    /// Beside Rattle, by these names.
+    fn show_beside(&self, others: [&str; 2], what: &str, each: &str) {
+        let names = ["Rattle", others[0], others[1]];
+        let times: Vec<_> = (0..N).map(|i| format!("{} {:.1} ns", names[i], self.median(i))).collect();
+        let ratios: Vec<_> = (1..N).map(|i| format!("{:.2} of {}", self.ratio(i), names[i])).collect();
         println!("{what}: {} a {each}; Rattle takes {}", times.join(", "), ratios.join(", "));
     }
 }
@@ -311,6 +331,68 @@ fn bills() {
     }
 }
 
+/// A fresh flow box and readings for it, by name: `mixed`, all reported, or all silent but the first.
+fn readings(what: &str, n: usize) -> (FlowBox, Vec<Reading>) {
+    let (cov, time) = match what {
+        "mixed" => (10.0, 2),
+        "all reported" => (10.0, 1),
+        _ => (1_000.0, 1),
+    };
+    let mut rng = Rng::new(5);
+    let reading = |i: usize| match rng.below(50) {
+        0 if what == "mixed" => Reading::Share(1.5),
+        1..6 if what == "mixed" => Reading::Broken,
+        // At least 260 and at most 240 in turn.
+        draw if what == "all reported" && draw % 2 == 0 => {
+            Reading::Share((rng.below(481) + if i % 2 == 0 { 520 } else { 0 }) as f32 / 1_000.0)
+        }
+        _ if what == "all reported" => {
+            Reading::Flow((rng.below(2_401) + if i % 2 == 0 { 2_600 } else { 0 }) as f32 / 10.0)
+        }
+        draw if draw % 2 == 0 => Reading::Share(rng.below(1_001) as f32 / 1_000.0),
+        _ => Reading::Flow(rng.below(6_000) as f32 / 10.0),
+    };
+    (FlowBox::fresh(500.0, cov, time), (0..n).map(reading).collect())
+}
+
+/// The box after the readings, and how many it has reported.
+fn hear_all(
+    mut flow: FlowBox,
+    readings: &[Reading],
+    hear: impl Fn(&mut FlowBox, Reading) -> Result<Option<FlowReport>, FlowRefusal>,
+) -> (FlowBox, usize) {
+    let mut reports = 0;
+    for &reading in black_box(readings) {
+        let heard = black_box(hear(&mut flow, reading));
+        reports += usize::from(matches!(heard, Ok(Some(_))));
+    }
+    (flow, reports)
+}
+
+/// Readings to the proved flow box, and to the plain one in Rust by the same form and in place.
+fn flows() {
+    for what in ["mixed", "all reported", "all silent"] {
+        let (fresh, readings) = readings(what, RECORDS);
+        let (mut proved, mut by_value, mut in_place) = ((fresh, 0), (fresh, 0), (fresh, 0));
+        Rounds::of(
+            RECORDS,
+            [
+                &mut || proved = hear_all(fresh, &readings, FlowBox::hear),
+                &mut || by_value = hear_all(fresh, &readings, plain::hear_by_value),
+                &mut || in_place = hear_all(fresh, &readings, plain::hear),
+            ],
+        )
+        .show_beside(["Rust by value", "Rust in place"], &format!("flow box, {what}"), "reading");
+        assert!(proved == by_value && by_value == in_place, "the flow boxes differ");
+        let expected = match what {
+            "all reported" => RECORDS,
+            "all silent" => 1,
+            _ => proved.1,
+        };
+        assert!(proved.1 == expected, "{} of {expected} reports", proved.1);
+    }
+}
+
 /// The programs: the proved one at `program`, and this one as `drive`.
 fn programs(program: &Path) -> io::Result<()> {
     let file = std::env::temp_dir().join(format!("damper-records-{}", std::process::id()));
@@ -339,5 +421,6 @@ pub fn run(program: &Path) -> io::Result<()> {
     }
     halls();
     bills();
+    flows();
     programs(program)
 }

@@ -1,11 +1,12 @@
-//! `damper-check` runs all comparisons of the proved drive and hall with the second implementation, by fixed
-//! seeds.
+//! `damper-check` runs all comparisons of the proved drive, hall and flow box with the second implementation,
+//! by fixed seeds.
 //! `damper-check compare EVENTS STEPS SEED` the same by hand, with these numbers and this seed alone.
 //! `damper-check bench PROGRAM` prints times, PROGRAM being the proved `drive`.
 //! `damper-check spend proved|model|plain|none mixed|ticks N` replays N records once, and
 //! `damper-check spend proved|model|plain|none hall|backup|list|page|bill N` ticks N drives in halls of 64,
 //! any or such as BackupValue rules, gives them events by lists, writes their shift pages, or shares bills
-//! out, for a count of instructions.
+//! out, for a count of instructions; `damper-check spend proved|model|none flow N` gives a flow box N
+//! readings, `model` being here the plain box in Rust, by value.
 //! `damper-check drive` is document 01's program `drive`.
 //! `damper-check gen N SEED` writes N mixed records of six bytes.
 

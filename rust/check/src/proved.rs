@@ -1,7 +1,8 @@
-//! The proved drive and the proved hall, as a host has them.
+//! The proved drive, the proved hall and the proved flow box, as a host has them.
 
-use crate::subject::{Hall, Subject};
-use damper::{Answer, Drive, HallRefusal, Refusal};
+use crate::flow::Heard;
+use crate::subject::{Flow, Hall, Subject};
+use damper::{Answer, Drive, FlowBox, FlowReport, HallRefusal, Refusal};
 
 pub struct Proved;
 
@@ -48,6 +49,28 @@ impl Hall for Proved {
     #[inline]
     fn bill(&self, row: &[Drive], bill: u64, shares: &mut [u32]) -> u8 {
         number(damper::hall_bill(row, bill, shares))
+    }
+}
+
+impl Flow for Proved {
+    fn fresh(&self, nominal: f32, cov: f32, time: u32) -> FlowBox {
+        FlowBox::fresh(nominal, cov, time)
+    }
+
+    #[inline]
+    fn well_formed(&self, record: &FlowBox) -> bool {
+        record.well_formed()
+    }
+
+    #[inline]
+    fn hear(&self, record: &FlowBox, kind: u32, value: f32) -> (Heard, FlowBox) {
+        let mut after = *record;
+        let heard = match after.hear_parts(kind, value) {
+            Err(refusal) => Heard::Refused(refusal.number()),
+            Ok(None) => Heard::Silent,
+            Ok(Some(FlowReport { flow, percent })) => Heard::Report { flow, percent },
+        };
+        (heard, after)
     }
 }
 

@@ -1,6 +1,7 @@
-//! What a drive and a hall under test offer.
+//! What a drive, a hall and a flow box under test offer.
 
-use damper::{Answer, Drive, Refusal};
+use crate::flow::Heard;
+use damper::{Answer, Drive, FlowBox, Refusal};
 
 pub trait Subject {
     fn fresh(&self) -> Drive;
@@ -30,4 +31,14 @@ pub trait Hall {
 
     /// The cents of a bill that every drive pays: 0, 14, 20 or 21.
     fn bill(&self, row: &[Drive], bill: u64, shares: &mut [u32]) -> u8;
+}
+
+/// A flow box. Any values are a record, and any kind and value are a reading.
+pub trait Flow {
+    fn fresh(&self, nominal: f32, cov: f32, time: u32) -> FlowBox;
+
+    fn well_formed(&self, record: &FlowBox) -> bool;
+
+    /// The answer to a reading and the record after it. Kind 0 is a flow, 1 a share, 2 broken.
+    fn hear(&self, record: &FlowBox, kind: u32, value: f32) -> (Heard, FlowBox);
 }

@@ -1,10 +1,12 @@
-//! All comparisons of the proved drive and hall, on as many threads as there are cores, printed.
+//! All comparisons of the proved drive, hall and flow box, on as many threads as there are cores, printed.
 
 use crate::audits::{audits, AuditCover};
 use crate::bills::bills;
 use crate::bills::cover::BillCover;
 use crate::compare::{self, Finding};
 use crate::cover::Cover;
+use crate::flows;
+use crate::flows::cover::{FlowCover, ListCover};
 use crate::halls::cover::HallCover;
 use crate::halls::halls;
 use crate::proved::Proved;
@@ -20,19 +22,24 @@ const EVENTS: u64 = 20_000_000;
 const STEPS: u64 = 5_000_000;
 const LEAST_COUNT: u64 = 1_000;
 /// What the gate has to reach, where that is more.
-const LEAST: [(&str, u64); 4] = [
+const LEAST: [(&str, u64); 6] = [
     ("hall tick given", 1_000_000),
     ("W-207 in steps: all", 500_000),
     ("W-207 in halls: all", 500_000),
     ("bill: all", 1_000_000),
+    ("flow: all", 20_000_000),
+    ("flow lists: all", 100_000),
 ];
 
 /// Lists that are replayed.
 const REPLAYS: u32 = 20_000;
-/// Events on lists for each hall call, for each record that is audited, and for each bill.
+/// Events on lists for each hall call, for each record that is audited, for each bill, for each reading to a
+/// single flow box, and for each list of readings.
 const EVENTS_A_CALL: u64 = 8;
 const EVENTS_AN_AUDIT: u64 = 4;
 const EVENTS_A_BILL: u64 = 40;
+const EVENTS_A_READING: u64 = 2;
+const EVENTS_A_LIST_OF_READINGS: u64 = 400;
 
 /// How often each case was met, by name.
 type Counts = Vec<(String, u64)>;
@@ -129,6 +136,10 @@ fn parts(events: u64, steps: u64, seed: u64) -> Vec<Part> {
             let mut cover = Cover::default();
             (compare::lists(&Proved, seed, events, &mut cover), cover.counts())
         }),
+        part("flow boxes, single readings", seed, move || {
+            let mut cover = FlowCover::default();
+            (flows::singles(&Proved, seed, events / EVENTS_A_READING, &mut cover), cover.counts())
+        }),
         part("audit and outlook", seed, move || {
             let mut cover = AuditCover::default();
             (audits(seed, events / EVENTS_AN_AUDIT, &mut cover), cover.counts())
@@ -136,6 +147,10 @@ fn parts(events: u64, steps: u64, seed: u64) -> Vec<Part> {
         part("single steps", seed, move || {
             let mut cover = Cover::default();
             (compare::singles(&Proved, seed, steps, &mut cover), cover.counts())
+        }),
+        part("flow boxes, lists", seed, move || {
+            let mut cover = ListCover::default();
+            (flows::lists(&Proved, seed, events / EVENTS_A_LIST_OF_READINGS, &mut cover), cover.counts())
         }),
         part("bills", seed, move || {
             let mut cover = BillCover::default();

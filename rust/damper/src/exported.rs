@@ -3,7 +3,7 @@
 //! asks anything of its arguments beyond pointers that are valid for their lengths and rows that do not
 //! overlap, and a Rust slice is that. They keep no pointer and have no state of their own.
 
-use crate::{Commands, Drive, Findings, Last, Run, DRIVE_BYTES};
+use crate::{Commands, Drive, Findings, FlowBox, Last, Run, DRIVE_BYTES, FLOW_BYTES};
 use core::mem::{align_of, offset_of, size_of};
 
 #[repr(C)]
@@ -58,6 +58,16 @@ pub struct Audited {
     pub audit: Audit,
     pub refusal: u8,
     pub findings: Findings,
+}
+
+/// Refusal 0 is none.
+#[repr(C)]
+pub struct FlowHeard {
+    pub state: FlowBox,
+    pub flow: f32,
+    pub refusal: u8,
+    pub reported: u8,
+    pub percent: u8,
 }
 
 // libhost.a
@@ -129,6 +139,16 @@ extern "C" {
     fn damper_audit_fresh() -> Audit;
     #[link_name = "damper_audit_hear_layout3"]
     fn damper_audit_hear(audit: Audit, bytes: *const u8, length: usize, word: u8, code: u32) -> Audited;
+}
+
+// libhost_flow.a
+extern "C" {
+    #[link_name = "damper_flow_fresh_layout3"]
+    fn damper_flow_fresh(nominal: f32, cov: f32, time: u32) -> FlowBox;
+    #[link_name = "damper_flow_well_formed_layout3"]
+    fn damper_flow_well_formed(flow: FlowBox) -> bool;
+    #[link_name = "damper_flow_hear_layout3"]
+    fn damper_flow_hear(flow: FlowBox, kind: u32, value: f32) -> FlowHeard;
 }
 
 const _: () = {
@@ -205,6 +225,21 @@ const _: () = {
     assert!(offset_of!(Audited, audit) == 0);
     assert!(offset_of!(Audited, refusal) == 52);
     assert!(offset_of!(Audited, findings) == 53);
+
+    assert!(size_of::<FlowBox>() == FLOW_BYTES && align_of::<FlowBox>() == 4);
+    assert!(offset_of!(FlowBox, since) == 0);
+    assert!(offset_of!(FlowBox, sent) == 2);
+    assert!(offset_of!(FlowBox, time) == 4);
+    assert!(offset_of!(FlowBox, nominal) == 8);
+    assert!(offset_of!(FlowBox, cov) == 12);
+    assert!(offset_of!(FlowBox, last) == 16);
+
+    assert!(size_of::<FlowHeard>() == 28 && align_of::<FlowHeard>() == 4);
+    assert!(offset_of!(FlowHeard, state) == 0);
+    assert!(offset_of!(FlowHeard, flow) == 20);
+    assert!(offset_of!(FlowHeard, refusal) == 24);
+    assert!(offset_of!(FlowHeard, reported) == 25);
+    assert!(offset_of!(FlowHeard, percent) == 26);
 };
 
 #[inline]
@@ -311,4 +346,22 @@ pub fn audit_hear(audit: &Audit, bytes: &[u8], word: u8, code: u32) -> Audited {
     // SAFETY: the audit passes by value, and any bytes are one; the pointer goes with the length of its
     // slice; each bool of the result is 0 or 1.
     unsafe { damper_audit_hear(*audit, bytes.as_ptr(), bytes.len(), word, code) }
+}
+
+#[inline]
+pub fn flow_fresh(nominal: f32, cov: f32, time: u32) -> FlowBox {
+    // SAFETY: it takes numbers, and any bytes are a `FlowBox`.
+    unsafe { damper_flow_fresh(nominal, cov, time) }
+}
+
+#[inline]
+pub fn flow_well_formed(flow: &FlowBox) -> bool {
+    // SAFETY: the record passes by value, and any bytes are one; the answer is 0 or 1.
+    unsafe { damper_flow_well_formed(*flow) }
+}
+
+#[inline]
+pub fn flow_hear(flow: &FlowBox, kind: u32, value: f32) -> FlowHeard {
+    // SAFETY: the record passes by value, and any bytes are one; so is any kind and any float a reading.
+    unsafe { damper_flow_hear(*flow, kind, value) }
 }

@@ -1,13 +1,13 @@
 //! The proved damper drive of documents 01 and 02, alone and in a hall, for hosts in Rust. The drive itself
 //! is in the archives `libhost.a` and `libhost_replay.a`, the calls on a hall of drives in `libhall_event.a`,
 //! `libhall_tick.a`, `libhall_page.a` and `libhall_bill.a`, what a tick goes by and the audit of a drive's
-//! answers in `libhost_audit.a`, written and proved in Rattle; this crate gives their numbers types and
-//! decides nothing.
+//! answers in `libhost_audit.a`, flow boxes in `libhost_flow.a`, written and proved in Rattle; this crate gives
+//! their numbers types and decides nothing.
 //!
-//! Cargo links them from the folder that the environment variable DAMPER_ARCHIVES names, or from the
-//! repository's target/staticlib, where `rt staticlib host`, `rt staticlib host_replay`,
-//! `rt staticlib host_audit`, `rt staticlib hall_event`, `rt staticlib hall_tick`,
-//! `rt staticlib hall_page` and `rt staticlib hall_bill` write them.
+//! Cargo links them, and all of them have to be there, from the folder that the environment variable
+//! DAMPER_ARCHIVES names by an absolute path, or from the repository's target/staticlib, where `rt staticlib host`, `rt staticlib host_replay`,
+//! `rt staticlib host_audit`, `rt staticlib host_flow`, `rt staticlib hall_event`,
+//! `rt staticlib hall_tick`, `rt staticlib hall_page` and `rt staticlib hall_bill` write them.
 //!
 //! ```
 //! use damper::{Answer, Drive, Event, Parameter, Rank, Refusal, DRIVE_BYTES};
@@ -28,8 +28,8 @@
 //! ```
 //!
 //! A hall holds up to 64 drives in one row: [`hall_event`], [`hall_tick`], [`hall_page`] and
-//! [`hall_bill`]. [`Audit`] holds the
-//! answers of any drive against the list of its event records.
+//! [`hall_bill`]. [`Audit`] holds the answers of any drive against the list of its event records. [`FlowBox`]
+//! is another maker's supply-air box, which measures flow.
 
 #![no_std]
 #![warn(missing_docs)]
@@ -44,6 +44,7 @@ mod audit;
 mod drive;
 mod event;
 mod exported;
+mod flow;
 mod hall;
 mod outlook;
 mod parameter;
@@ -53,6 +54,7 @@ pub use answer::{Answer, Motor, Rank, Status};
 pub use audit::{Audit, Findings, Said};
 pub use drive::{Commands, Drive, Last, Run, DRIVE_BYTES};
 pub use event::{read, write, Command, Event};
+pub use flow::{FlowBox, FlowRefusal, FlowReport, Reading, FLOW_BYTES, FLOW_MOST, FLOW_TIME};
 pub use hall::{
     hall_bill, hall_event, hall_page, hall_tick, HallAnswer, HallRefusal, HallTick, HALL_BILL, HALL_LINE,
     HALL_MOST, HALL_QUOTA,
