@@ -342,7 +342,7 @@ static void percents(damper_drive fresh)
 
 /*
  * The twelve inline functions of the header, which stand between what is proved and a host's log: each against the definitions, written
- * here again as tables, `valuesOf`, `wordOf`, `codeOf` (crates/answer/specs/Answer.antt) and `tickNumber` (crates/hall/specs/Hall.antt).
+ * here again as tables, `valuesOf`, `wordOf`, `codeOf` (crates/answer/specs/Answer.antt) and `tickNumber` (crates/hall/specs/Turns.antt).
  */
 
 /* The values that a printed line has after its word, and which of them are there in the answers of each word, in order. */
@@ -823,7 +823,7 @@ static void percent_positions(damper_drive fresh)
     }
 }
 
-/* Document 01's row m1 in a hall of three with a quota of 1, so that it is decided who is sent: one a tick, in order. */
+/* Document 01's row m1 in a hall of three with a quota of 1: one a tick, in order. */
 static void hall_quota(damper_drive fresh)
 {
     fill_hall(fresh);
@@ -851,6 +851,20 @@ static void hall_quota(damper_drive fresh)
     damper_drive waited = now.row[1];
     CHECK(give(waited, DAMPER_KIND_TICK, 0, 0, 0).drive.wait == 8 && after(waited, DAMPER_KIND_SETPOINT, 3, 0, 0).wait == 8);
     CHECK(after(waited, DAMPER_KIND_RESTART, 0, 0, 0).wait == 0 && damper_well_formed(waited) && fresh.wait == 0);
+
+    /* Five that are due at every tick: as many as the quota, by the waits from before the tick and then by number. */
+    const unsigned sent[] = {0x03, 0x0C, 0x11, 0x0E}, quotas[] = {2, 2, 2, 3};
+    fill_hall(with_param(quick, DAMPER_NUMBER_REP_PER, 1));
+    for (unsigned k = 0; k < sizeof quotas / sizeof quotas[0]; k++) {
+        CHECK(tick_hall(5, quotas[k], 5) == 0);
+        for (unsigned i = 0; i < 5; i++) {
+            bool goes = sent[k] >> i & 1;
+            CHECK(damper_hall_is_report(now.numbers[i]) == goes && (now.row[i].wait == 0) == goes);
+        }
+    }
+    now.row[0].wait = 65534; /* rises to 65,535, and yet goes behind one that has stopped there */
+    now.row[4].wait = UINT16_MAX;
+    CHECK(tick_hall(5, 1, 5) == 0 && damper_hall_is_report(now.numbers[4]) && now.row[0].wait == UINT16_MAX);
 }
 
 /* The shift page: a line for each commander, a damaged drive, the status of the record as it is, and the refusals. */

@@ -1,6 +1,7 @@
 /*
- * The damper drive of document 01, with the percents of request W-202, the hall of request W-201 with the quota of request
- * W-204 and the refusal of repeats of request W-205, the shift page of request W-203, and the travel of request W-208.
+ * The damper drive of document 01, with the percents of request W-202, the hall of request W-201 with the quota of requests
+ * W-204 and W-210 and the refusal of repeats of request W-205, the shift page of request W-203, and the travel of request
+ * W-208.
  */
 #include "plain.h"
 
@@ -490,14 +491,43 @@ static uint64_t advance_all(damper_drive *row, size_t drives, uint32_t *numbers,
     return due;
 }
 
-/* The due drive that waited longest, of equals the lowest; one is due. */
-static size_t longest(const damper_drive *row, size_t drives, uint64_t due)
+/* How many of these waits are as long as this one or longer. */
+static uint16_t as_long(const uint16_t *waits, size_t many, uint16_t wait)
 {
-    size_t first = drives;
+    uint16_t count = 0;
+    for (size_t k = 0; k < many; k++)
+        count += waits[k] >= wait;
+    return count;
+}
+
+/* The longest wait that as many as the quota have reached, found from its highest bit down. */
+static uint16_t reached_by(const uint16_t *waits, size_t many, uint32_t quota)
+{
+    uint16_t wait = 0;
+    for (uint16_t bit = 0x8000; bit != 0; bit >>= 1)
+        if (as_long(waits, many, wait | bit) >= quota)
+            wait |= bit;
+    return wait;
+}
+
+/* The shortest wait of a drive that goes, and how many with just that wait do; all that waited longer go. */
+typedef struct {
+    uint16_t wait;
+    uint32_t places;
+} limit;
+
+static limit limit_of(const damper_drive *row, size_t drives, uint64_t due, uint32_t quota)
+{
+    uint16_t waits[DAMPER_HALL_MOST];
+    size_t many = 0;
     for (size_t i = 0; i < drives; i++)
-        if (due >> i & 1 && (first == drives || row[i].wait > row[first].wait))
-            first = i;
-    return first;
+        if (due >> i & 1)
+            waits[many++] = row[i].wait;
+    if (many <= quota)
+        return (limit){0, quota};
+    uint16_t wait = reached_by(waits, many, quota);
+    uint16_t longer = wait == UINT16_MAX ? 0 : as_long(waits, many, wait + 1);
+    return (limit){wait, quota - longer};
 }
 
 /* A drive that is due goes, or waits one hall tick more. */
@@ -512,7 +542,7 @@ static void settle(damper_drive *d, bool sent, uint8_t now, uint32_t *number)
     *number = DAMPER_HALL_REPORT + 256u * d->position + now;
 }
 
-/* The one that waited longest, then the lowest numbers as far as the quota goes. */
+/* Exactly the smaller of the quota and the number due go, longest wait first, lower number among equals. */
 uint8_t plain_hall_tick(damper_drive *row, size_t drives, uint32_t quota, uint32_t *numbers, size_t places)
 {
     uint8_t refusal = judge_tick(drives, quota, places), now[DAMPER_HALL_MOST];
@@ -521,13 +551,13 @@ uint8_t plain_hall_tick(damper_drive *row, size_t drives, uint32_t quota, uint32
     uint64_t due = advance_all(row, drives, numbers, now);
     if (due == 0)
         return 0;
-    size_t first = longest(row, drives, due);
-    uint32_t others = quota - 1;
+    limit last = limit_of(row, drives, due, quota);
     for (size_t i = 0; i < drives; i++) {
         if (!(due >> i & 1))
             continue;
-        bool sent = i == first || others > 0;
-        others -= i != first && others > 0;
+        bool equal = row[i].wait == last.wait;
+        bool sent = row[i].wait > last.wait || (equal && last.places > 0);
+        last.places -= equal && sent;
         settle(&row[i], sent, now[i], &numbers[i]);
     }
     return 0;

@@ -17,9 +17,9 @@
  *         printf("position %u\n", damper_answer_position(s.word, s.code));
  *
  * A host of a hall holds up to 64 records in one row and lends it: damper_hall_event gives an event to the drives that a
- * list names, damper_hall_tick ticks them all and sends at most a quota of reports, and the records are changed where they
- * are. damper_hall_page and damper_hall_bill only read them: the one writes the shift page, a printed line for each drive, the
- * other shares a bill out by how far each damper has travelled.
+ * list names, damper_hall_tick ticks them all and sends as many reports as its quota allows, and the records are changed
+ * where they are. damper_hall_page and damper_hall_bill only read them: the one writes the shift page, a printed line for each
+ * drive, the other shares a bill out by how far each damper has travelled.
  *
  * A flow box is another maker's supply-air box, which measures flow: a record of 20 bytes that takes a reading each second and
  * says when flow and percent are to be sent.
@@ -46,8 +46,8 @@
  *     damper_audit_hear, which is no work of every tick, at most DAMPER_AUDIT_STACK.
  *
  * Numbers are document 01's, those of a hall request W-201's, percents request W-202's, those of the shift page W-203's, those
- * of the quota W-204's, those of the bill W-208's, those of flow boxes W-209's. A position is 0 to 255, where 255 is 100 %; a
- * time is in ticks of a second, and a flow in m3/h.
+ * of the quota W-204's and W-210's, those of the bill W-208's, those of flow boxes W-209's. A position is 0 to 255, where 255
+ * is 100 %; a time is in ticks of a second, and a flow in m3/h.
  */
 #ifndef DAMPER_H
 #define DAMPER_H
@@ -61,7 +61,7 @@ extern "C" {
 #endif
 
 /* The version of header and archives. */
-#define DAMPER_VERSION "0.4.0"
+#define DAMPER_VERSION "0.5.0"
 
 /* The layout of the record, and with it the names of the functions in the archives. */
 #define DAMPER_LAYOUT 3
@@ -247,7 +247,7 @@ enum damper_refusal {
 enum damper_hall_refusal {
     DAMPER_HALL_REFUSAL_ROW = 14,    /* the row has no drive, or over DAMPER_HALL_MOST */
     DAMPER_HALL_REFUSAL_NUMBER = 15, /* a number of the list is not below the row's length */
-    DAMPER_HALL_REFUSAL_CALL = 16,   /* an accepted tick, a list over DAMPER_HALL_MOST, or too few places for the answers */
+    DAMPER_HALL_REFUSAL_CALL = 16,   /* an accepted tick, a list over DAMPER_HALL_MOST, or too few places for answers or numbers */
     DAMPER_HALL_REFUSAL_PAGE = 17,   /* the page has fewer than DAMPER_HALL_LINE bytes for each drive */
     DAMPER_HALL_REFUSAL_QUOTA = 18,  /* the quota is not 1 to DAMPER_HALL_QUOTA */
     DAMPER_HALL_REFUSAL_TWICE = 19,  /* the list names a drive twice */
@@ -517,18 +517,24 @@ uint8_t damper_hall_event(damper_drive *row, size_t drives, const uint32_t *list
  */
 
 /*
- * Ticks every drive of the row, and gives 0; of the reports that are due it sends at most `quota`. A report is due where a
- * tick given to the drive alone would report. If any is due, the drive that waited longest is sent, of several the one with
- * the lower number; which others are sent is not promised. One that is due and not sent waits: it moves and its counts rise as
- * at any tick, its last report stays as it is, the ticks since are not set to 0, and `wait` rises by one, up to 65,535. Sent, or
- * not due, it has wait 0. A restart sets wait to 0 too; no other event changes it, nor does a tick given to the drive alone.
+ * Ticks every well-formed drive of the row, and gives 0; of the reports that are due it sends `quota`, or all if they are
+ * fewer. A report is due where a tick given to the drive alone would report. Of the due drives those with the larger `wait`
+ * before the call are sent first, of equal ones those with the lower number; drives that are not due, or not well formed, take
+ * no place of the quota. One that is due and not sent is held: it moves and its counts rise as at any tick, `last` stays,
+ * `since` goes on rising, and `wait` rises by one, up to 65,535. Sent, or well formed and not due, it has wait 0. A restart sets
+ * wait to 0 too; no other event changes it, nor does a tick given to the drive alone.
+ *
+ * A report shows what the tick that sends it leaves. What is held and no longer due at the next hall tick is not told of: a
+ * drive that is due at every second hall tick may never be sent.
  *
  * numbers[i] is then DAMPER_HALL_REPORT + 256 * position + status if drive i is sent, DAMPER_HALL_SILENT if it is not, and
  * DAMPER_HALL_NOT_WELL_FORMED if its record is not well formed, which stays as it is. So do the places of the numbers from
  * `drives` on. Rank and motor are not said; where a damper is to stand after the tick, its record says.
  *
- * A drive that is due at each of as many hall ticks in a row as the row has drives, and is not restarted between them, is sent
- * at one of these, provided that nobody else writes the row and its length stays the same.
+ * A drive that is due at each of some consecutive hall ticks, and is not restarted between them, is sent at one of these if
+ * their quotas add up to the number of drives or more; with one quota throughout, within drives / quota hall ticks, rounded up.
+ * (Between them only damper_hall_event changes the row, and its length stays the same. A record that is put back brings its
+ * wait with it.)
  *
  * The call is turned down by 14 if drives is 0 or over 64, otherwise by 16 if places is below drives, otherwise by 18 if the
  * quota is not 1 to 64, and then both rows stay as they are.

@@ -468,16 +468,6 @@ class Walk:
         )
         self.put_back(o, c, 0, row, index, f"({name} .drive)", f"({DRIVE.vals} ({name} .drive))", DRIVE.made(f"({name} .drive)", "(parts .0)"), within)
 
-    def put(self, o, c, source, name, pointer, row, index, within):
-        """The drive that is the local `source`, named `name`, into its place."""
-        known = f"known-{name}"
-        o(f"let {known} : Is R {name} ({DRIVE.vals[1:-1]} {name}) = subst (Is R {name}) ({DRIVE.tells[1:-1]} {name} _ is-{name}) is-{name} in")
-        o(
-            f"assigns ! (of-opd ! {c.look(f'_{source}')}) (from ! (hop ! (look ! {c.at(f'_{pointer}')} refl) (stop !))) "
-            f"(store-raw ! {c.at('cell')} refl {DRIVE.typed(name, known)}) $"
-        )
-        self.put_back(o, c, 0, row, index, name, f"({DRIVE.vals} {name})", DRIVE.made(name, known), within)
-
     def answer(self, o, c, j, source, name, pointer, row, within):
         """The number of the local `source`, named `name`, into place k of the row of answers."""
         e = self.slices[j].element
@@ -933,7 +923,7 @@ def trimmed(uses, body):
 USES = """\
 use mathlib.Core.Path.{_≡_, refl, sym, _∙_, ap, subst}
 use mathlib.Core.Bool.{Bool, true, false}
-use Prim.Native.Nat.{ℕ, _+_, _-_, _<_, _≤_, _*_, _^_, max, zero-le}
+use Prim.Native.Nat.{ℕ, _+_, _-_, _<_, _≤_, _*_, _^_, zero-le}
 use native.Mathlib.Nat.{le-antisymm}
 use native.Mathlib.Numerals.{add-one-le, add-one-dec}
 use native.Mathlib.Omega.{arith}
@@ -992,8 +982,9 @@ use Rattle.damper.proofs.Drive as T
 use Rattle.damper.proofs.Drive.Laws as T′
 use Rattle.shift.specs.Shift.{driveLine, pageRefusal, pageAfter}
 use Rattle.shift.specs.Laws.{line-length, Lines, lines-fit, pageBy, page-start, page-by-length, page-turn, page-end, page-length}
-use Rattle.hall.specs.Hall.{Call, give, tick, tickRefusal, callRefusal, Turn, turnsOf, at, rowAfter, tickNumber, answersAfter}
-use Rattle.hall.specs.Quota.{dueNow, hallTicked, hallStep, allowedCall}
+use Rattle.hall.specs.Hall.{Call, give, tickRefusal, callRefusal, at}
+use Rattle.hall.specs.Quota.{hallTicked}
+use Rattle.hall.specs.Turns.{Turn, turnsOf, rowAfter, answersAfter, hallStep}
 use Rattle.hall.specs.Laws.{Turns, give-turns, turns-most, row-length, rowBy, answersBy, row-start, answers-start, row-by-length, answers-by-length, row-turn, answers-turn, row-end, answers-end, answers-end-length}
 """
 

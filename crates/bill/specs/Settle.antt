@@ -2,7 +2,7 @@
 use mathlib.Core.Path.{_≡_, refl, ap, _∙_}
 use mathlib.Core.Bool.{Bool, true, false}
 use mathlib.Core.List.{List}
-use Prim.Native.Nat.{ℕ, _+_, _-_, _*_, _/_, _%_, _^_, _<_, _≤_}
+use Prim.Native.Nat.{ℕ, _+_, _*_, _/_, _%_, _^_, _<_, _≤_}
 use native.Mathlib.Omega.{arith}
 use native.Mathlib.Nat.{mul-comm, mul-le-mul-left, mod-lt, div-le-of-le-mul}
 use lib.Dec.{ltb, leb, eqb}
@@ -14,7 +14,7 @@ use Rattle.numbers.specs.Laws.{cases}
 use Rattle.numbers.specs.Places.{tabulate}
 use Rattle.numbers.specs.PlaceLaws.{tab-length, tab-at, tab-same, count-most}
 use Rattle.order.specs.Order.{largerFirst, anyone, rank}
-use Rattle.order.specs.Keys.{keyOf, countFrom, key-once, first-keyed}
+use Rattle.order.specs.Keys.{keyOf, countFrom, first-from, key-once, first-keyed}
 use Rattle.bill.specs.Sums.{sumBelow, sum-each, sum-fewer, sum-more}
 use Rattle.bill.specs.Bill.{countIn, totalOf, part, remainder, leftOver, getsOne, shares}
 use Rattle.bill.specs.Laws.{parts-most, left-most}
@@ -120,6 +120,9 @@ module _ {bill total left : ℕ} {counts row lows highs : List ℕ} (given : Sha
   part-at : (i : ℕ) → i < length counts → getD row i 0 ≡ part bill counts i
   part-at i l = ap (λ (t : List ℕ). getD t i 0) (done .divided) ∙ tab-at (length counts) _ 0 i l
 
+  keyed : (i : ℕ) → i < length counts → anyone i ≡ true → key i ≡ 0 + keyOf (remainder bill counts i) i
+  keyed i l a = omega (arith, done .keyed .at i l)
+
   pub sought : (left ≡ 0 → ⊥) → Sought key (length row) left (64 * total)
   sought some =
       rw size
@@ -128,7 +131,7 @@ module _ {bill total left : ℕ} {counts row lows highs : List ℕ} (given : Sha
         some = omega arith;
         enough = omega (arith, done .over, left-most bill counts moved, count-most (λ i. ltb 0 (remainder bill counts i)) (length counts));
         below = λ i l. omega (arith, done .keyed .at i l, mod-lt (bill * countIn counts i) moved, given .sum);
-        once = key-once (remainder bill counts) key (length counts) (given .few) (done .keyed .at);
+        once = λ i j k l. key-once (remainder bill counts) key 0 anyone (length counts) (given .few) keyed i j k l refl refl;
       }
 
   pub payable : (length row ≤ 64) × ((i : ℕ) → i < length row → getD row i 0 + 1 < 2 ^ 32)
@@ -153,5 +156,7 @@ module _ {bill total left : ℕ} {counts row lows highs : List ℕ} (given : Sha
       rw size
       (tab-same 0 (length counts) _ _
       (λ i l.
-      let told = first-keyed (remainder bill counts) key (length counts) (given .few) (done .keyed .at) left least (rw size at count) i l in
+      let told =
+      first-from key anyone (length counts) left least (rw size at count) (λ j k e. refl) i l
+      ∙ first-keyed (remainder bill counts) key 0 anyone (length counts) (given .few) keyed left i l in
       rw (told, part-at i l, done .over) (one-more (getsOne bill counts i) (part bill counts i))))

@@ -1,4 +1,4 @@
--- Who was sent at a hall tick, read off its numbers (document 02, W-201 and W-204).
+-- Which numbers of a hall tick are reports (document 02, W-201): after it they tell who was sent.
 use mathlib.Core.Bool.{Bool}
 use mathlib.Core.List.{List}
 use Prim.Native.Nat.{ℕ}
@@ -10,5 +10,5 @@ abbrev pub isReportNumber : ℕ → Bool
 isReportNumber n = leb 65536 n
 
 -- whether the number at place `i` is one
-abbrev pub sentBy : List ℕ → ℕ → Bool
-sentBy numbers i = isReportNumber (getD numbers i 0)
+abbrev pub reportAt : List ℕ → ℕ → Bool
+reportAt numbers i = isReportNumber (getD numbers i 0)

@@ -1,6 +1,5 @@
 -- When a call is refused itself, corner by corner, by computation.
 use mathlib.Core.Path.{_≡_, refl}
-use mathlib.Core.Bool.{false}
 use mathlib.Core.List.{List, [], _∷_, _++_, map}
 use Prim.Native.Nat.{ℕ}
 use Rattle.numbers.specs.Places.{placesFrom}
@@ -9,7 +8,8 @@ use Rattle.answer.specs.Answer.{numberOf}
 use Rattle.damper.specs.Record.{freshDrive}
 use Rattle.damper.specs.Step.{stepOf}
 use Rattle.hall.specs.Closed.{computation}
-use Rattle.hall.specs.Hall.{Call, give, tick, tickBytes, callRefusal, turnsOf}
+use Rattle.hall.specs.Hall.{Call, give, tick, callRefusal}
+use Rattle.hall.specs.Turns.{tickBytes, turnsOf}
 
 -- how many drives, the call, and what refuses it
 pub record Corner : Type 0 where
@@ -19,10 +19,6 @@ pub record Corner : Type 0 where
 
 abbrev corner : ℕ → Call → ℕ → Corner
 corner n c r = record { drives = n; call = c; number = r }
-
--- a hall tick with a quota, whoever is sent
-abbrev ticks : ℕ → ℕ → Call
-ticks quota room = tick quota (λ i. false) room
 
 abbrev setpoint : List ℕ
 setpoint = bytesOf (event 2 128 0 0)
@@ -34,8 +30,8 @@ damaged = bytesOf (event 1 0 0 1)
 abbrev pub table : List Corner
 table =
     -- rows of none, of 64 and of 65
-    corner 0 (ticks 8 0) 14
-    ∷ corner 64 (ticks 8 64) 0
+    corner 0 (tick 8 0) 14
+    ∷ corner 64 (tick 8 64) 0
     ∷ corner 65 (give [] setpoint 0) 14
     -- a number that is the row's length, beside an accepted tick
     ∷ corner 8 (give (8 ∷ []) tickBytes 1) 15
@@ -51,9 +47,9 @@ table =
     -- a drive named twice, only by the first and the last entry
     ∷ corner 8 (give (7 ∷ 3 ∷ 5 ∷ 7 ∷ []) setpoint 4) 19
     -- quotas of none and of 65; 16 before 18
-    ∷ corner 2 (ticks 0 2) 18
-    ∷ corner 2 (ticks 65 2) 18
-    ∷ corner 2 (ticks 0 1) 16
+    ∷ corner 2 (tick 0 2) 18
+    ∷ corner 2 (tick 65 2) 18
+    ∷ corner 2 (tick 0 1) 16
     ∷ []
 
 pub corners : map (λ (c : Corner). callRefusal (c .drives) (c .call)) table ≡ map (λ (c : Corner). c .number) table
@@ -66,6 +62,6 @@ unfolding computation
 damaged-refused = refl
 
 -- the empty list has no turns
-pub none-given : turnsOf 1 (give [] setpoint 0) ≡ []
+pub none-given : turnsOf (freshDrive ∷ []) (give [] setpoint 0) ≡ []
 unfolding computation
 none-given = refl

@@ -17,7 +17,8 @@ use Rattle.damper.specs.declared.Drive.{Drive}
 use Rattle.damper.specs.declared.Outcome.{Outcome}
 use Rattle.damper.specs.Record.{freshDrive}
 use Rattle.damper.specs.Carry.{StepOn, answersIn}
-use Rattle.hall.specs.Hall.{Call, give, tick, badNumber, namedIn, namesTwice, refusalTo16, callRefusal, Given, bytes, Turn, turnsAsked, carriedOut, turnsOf, at, turned, rowAfter, answersAfter, turnsIn}
+use Rattle.hall.specs.Hall.{Call, give, tick, badNumber, namedIn, namesTwice, refusalTo16, callRefusal, carriedOut, at}
+use Rattle.hall.specs.Turns.{Given, bytes, hallStep, Turn, turnsAsked, turnsOf, turned, rowAfter, answersAfter, turnsIn}
 use Rattle.hall.specs.Laws.{good-at, event-passed, first-most, asked-after, refused-before}
 use Rattle.hall.specs.ListLaws.{named-place}
 use Rattle.hall.specs.OnceLaws.{once-row, once-turned}
@@ -56,53 +57,54 @@ module _ (n : ℕ) (list s : List ℕ) (room : ℕ) where
 -- Lists without repeats, as W-201 has them.
 
 -- W-201's turns of a call: of an event call where none of 14 to 16 fits
-abbrev pub turnsTo16 : ℕ → Call → List Turn
-turnsTo16 n (give list s room) = pick (eqb (refusalTo16 n list s room) 0) (turnsAsked n (give list s room)) []
-turnsTo16 n (tick quota sends room) = turnsOf n (tick quota sends room)
+abbrev pub turnsTo16 : List Drive → Call → List Turn
+turnsTo16 row (give list s room) = pick (eqb (refusalTo16 (length row) list s room) 0) (turnsAsked row (give list s room)) []
+turnsTo16 row (tick quota room) = turnsOf row (tick quota room)
 
 -- and of a list of calls
-unfoldable pub turnsInTo16 : ℕ → List Call → List Turn
-turnsInTo16 n [] = []
-turnsInTo16 n (c ∷ cs) = turnsTo16 n c ++ turnsInTo16 n cs
+unfoldable pub turnsInTo16 : List Drive → List Call → List Turn
+turnsInTo16 row [] = []
+turnsInTo16 row (c ∷ cs) = let ts = turnsTo16 row c in ts ++ turnsInTo16 (rowAfter hallStep row ts) cs
 
 -- whether no list of these calls names a drive twice
 abbrev pub once : Call → Bool
 once (give list s room) = not (namesTwice list)
-once (tick quota sends room) = true
+once (tick quota room) = true
 
 unfoldable pub allOnce : List Call → Bool
 allOnce [] = true
 allOnce (c ∷ cs) = once c && allOnce cs
 
-once-turns : (n : ℕ) (c : Call) → once c ≡ true → turnsOf n c ≡ turnsTo16 n c
+once-turns : (row : List Drive) (c : Call) → once c ≡ true → turnsOf row c ≡ turnsTo16 row c
 unfolding turnsOf
-once-turns n (give list s room) e = rw (once-refusal n list s room (not-true (namesTwice list) e))
-once-turns n (tick quota sends room) e = refl
+once-turns row (give list s room) e = rw (once-refusal (length row) list s room (not-true (namesTwice list) e))
+once-turns row (tick quota room) e = refl
 
 -- "its answers for lists without repeats are unaffected": the refusal, the row and the answer row are those of W-201
 pub unaffected : (step : StepOn Given) (row : List Drive) (list s answers : List ℕ) → namesTwice list ≡ false
     → (let n = length row in
     let c = give list s (length answers) in
     (callRefusal n c ≡ refusalTo16 n list s (length answers))
-    × (rowAfter step row (turnsOf n c) ≡ rowAfter step row (turnsTo16 n c))
-    × (answersAfter step row c answers ≡ answersIn numberOf (turned step row (turnsTo16 n c)) answers))
+    × (rowAfter step row (turnsOf row c) ≡ rowAfter step row (turnsTo16 row c))
+    × (answersAfter step row c answers ≡ answersIn numberOf (turned step row (turnsTo16 row c)) answers))
 unfolding answersAfter
 unaffected step row list s answers t =
-    let same = once-turns (length row) (give list s (length answers)) (ap not t) in
+    let same = once-turns row (give list s (length answers)) (ap not t) in
     (once-refusal (length row) list s (length answers) t, ap (rowAfter step row) same, rw same)
 
 -- and so are all turns of a list of calls
-pub turns-unaffected : (n : ℕ) (cs : List Call) → allOnce cs ≡ true → turnsIn n cs ≡ turnsInTo16 n cs
+pub turns-unaffected : (row : List Drive) (cs : List Call) → allOnce cs ≡ true → turnsIn row cs ≡ turnsInTo16 row cs
 unfolding turnsIn turnsInTo16 allOnce
-turns-unaffected n [] e = refl
-turns-unaffected n (c ∷ cs) e = rw (once-turns n c (and-left (once c) _ e), turns-unaffected n cs (and-right (once c) _ e))
+turns-unaffected row [] e = refl
+turns-unaffected row (c ∷ cs) e =
+    rw (once-turns row c (and-left (once c) _ e), turns-unaffected (rowAfter hallStep row (turnsTo16 row c)) cs (and-right (once c) _ e))
 
 -- The event call, whole: what it leaves in the row and in the answer row, for every row of drives, list, bytes and answer row.
 module _ (step : StepOn Given) (row : List Drive) (list s : List ℕ) where
   pub event-row : (room : ℕ)
       → (let n = length row in
       let c = give list s room in
-      rowAfter step row (turnsOf n c)
+      rowAfter step row (turnsOf row c)
       ≡ tabulate n (λ i. pick (carriedOut n c && namedIn i list) (step (at row i) (bytes s) .drive) (at row i)))
   unfolding turnsOf rowAfter
   event-row room =
@@ -156,7 +158,7 @@ module _ (list other s : List ℕ) (room : ℕ) (l : length list ≡ length othe
   pub any-order : (step : StepOn Given) (row : List Drive)
       → (let n = length row in
       (callRefusal n (give list s room) ≡ callRefusal n (give other s room))
-      × (rowAfter step row (turnsOf n (give list s room)) ≡ rowAfter step row (turnsOf n (give other s room))))
+      × (rowAfter step row (turnsOf row (give list s room)) ≡ rowAfter step row (turnsOf row (give other s room))))
   any-order step row =
       let n = length row in
       let same = same-refusal n in (

@@ -17,7 +17,8 @@ use Rattle.damper.specs.declared.Drive.{Drive}
 use Rattle.damper.specs.declared.Outcome.{Outcome}
 use Rattle.damper.specs.Carry.{StepOn, answersIn}
 use Rattle.damper.specs.CarryLaws.{answers-more}
-use Rattle.hall.specs.Hall.{Call, give, badRow, badNumber, isTick, badEvent, badQuota, tickRefusal, eventRefusal, refusalTo16, callRefusal, Given, bytes, Turn, turn, turnsOf, at, rowWith, turned, rowAfter, answerNumber, answersAfter}
+use Rattle.hall.specs.Hall.{Call, give, badRow, badNumber, isTick, badEvent, badQuota, tickRefusal, eventRefusal, refusalTo16, callRefusal, at}
+use Rattle.hall.specs.Turns.{Given, bytes, Turn, turn, turnsOf, rowWith, turned, rowAfter, answerNumber, answersAfter}
 
 -- the numbers of a list from `k` on: the one at `k`, and those behind it
 pub bad-here : (n k : ℕ) (list : List ℕ) → k < length list → n ≤ getD list k 0 → badNumber n (drop k list) ≡ true
@@ -141,10 +142,12 @@ no-turns n room s p =
       each = λ k h. absurd (not-suc-le-zero h);
     }
 
-pub give-turns : (n room : ℕ) (s list : List ℕ) (stop : ℕ) → stop ≡ pick (eqb (callRefusal n (give list s room)) 0) (length list) 0
-    → Turns n room s (λ k. getD list k 0) stop (turnsOf n (give list s room))
+pub give-turns : (row : List Drive) (room : ℕ) (s list : List ℕ) (stop : ℕ) → let n = length row in
+    stop ≡ pick (eqb (callRefusal n (give list s room)) 0) (length list) 0
+    → Turns n room s (λ k. getD list k 0) stop (turnsOf row (give list s room))
 unfolding turnsOf
-give-turns n room s list stop e =
+give-turns row room s list stop e =
+    let n = length row in
     rw e
     (cases (eqb (callRefusal n (give list s room)) 0)
     (λ h. rw h
@@ -190,7 +193,7 @@ answers-length number os row h = simp (length-append, length-map, length-drop) (
 -- the end.
 module _ (step : StepOn Given) (row : List Drive) (c : Call) (answers : List ℕ) where
   abbrev ts : List Turn
-  ts = turnsOf (length row) c
+  ts = turnsOf row c
 
   abbrev pub rowBy : ℕ → List Drive
   rowBy k = rowAfter step row (take k ts)

@@ -8,8 +8,8 @@ use Rattle.damper.specs.declared.Advanced.{Advanced}
 use Rattle.damper.specs.WellFormed.{wellFormed}
 use Rattle.damper.specs.Tick.{advance, statusOf}
 use Rattle.damper.specs.Step.{tickWith}
-use Rattle.hall.specs.Hall.{tickNumber}
 use Rattle.hall.specs.Quota.{hallTicked}
+use Rattle.hall.specs.Turns.{tickNumber}
 
 number-with : (sent : Bool) (a : Advanced)
     → tickNumber (tickWith sent a .answer) ≡ pick sent (65536 + 256 * a .drive .position + statusOf (a .drive)) 0

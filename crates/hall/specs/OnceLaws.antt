@@ -14,7 +14,8 @@ use Rattle.numbers.specs.PlaceLaws.{tab-by}
 use Rattle.damper.specs.declared.Drive.{Drive}
 use Rattle.damper.specs.Record.{freshDrive}
 use Rattle.damper.specs.Carry.{StepOn}
-use Rattle.hall.specs.Hall.{namedIn, namesTwice, Given, Turn, turn, at, rowWith, turned, rowAfter, sharedOut}
+use Rattle.hall.specs.Hall.{namedIn, namesTwice, at}
+use Rattle.hall.specs.Turns.{Given, Turn, turn, rowWith, turned, rowAfter, sharedOut}
 use Rattle.hall.specs.Laws.{row-length}
 
 -- what the row after one turn has at the turn's place, and at another

@@ -1,19 +1,18 @@
--- Document 02, W-204, 'Quiet line': what a hall tick does to one drive, and which drives it may send.
-use mathlib.Core.Bool.{Bool, true, not, _&&_, _||_}
-use mathlib.Core.List.{List, [], _∷_}
+-- Document 02, W-204, 'Quiet line', and W-210, 'Use the whole quota': what a hall tick does to one drive, and whom it sends.
+use mathlib.Core.Bool.{Bool, not, _&&_}
+use mathlib.Core.List.{List}
 use Prim.Native.Nat.{ℕ}
-use lib.Dec.{ltb, leb, eqb}
 use lib.ListN.{length}
 use Rattle.numbers.specs.Numbers.{pick, next}
-use Rattle.numbers.specs.Places.{allBelow, countBelow, implies}
+use Rattle.order.specs.Order.{largerFirst, foremost}
 use Rattle.answer.specs.declared.Answer.the-variants.{No}
 use Rattle.damper.specs.declared.Drive.{Drive}
 use Rattle.damper.specs.declared.Outcome.{Outcome}
 use Rattle.damper.specs.Record.{withWait}
 use Rattle.damper.specs.WellFormed.{wellFormed}
 use Rattle.damper.specs.Tick.{advance, due}
-use Rattle.damper.specs.Step.{outcome, tickWith, stepOf}
-use Rattle.hall.specs.Hall.{Call, give, tick, Given, bytes, hallTick, carriedOut, turnsOf, at, rowAfter}
+use Rattle.damper.specs.Step.{outcome, tickWith}
+use Rattle.hall.specs.Hall.{at}
 
 -- "A well-formed drive is due when the fourth step of a tick would report."
 unfoldable pub dueNow : Drive → Bool
@@ -31,34 +30,19 @@ hallTicked sent d =
     let o = tickWith sent a in
     pick (wellFormed d) (outcome (withWait (o .drive) (waitAfter (due (a .drive)) sent (d .wait))) (o .answer)) (outcome d (No 1))
 
--- what a drive of a hall does with what it is given
-abbrev pub hallStep : Drive → Given → Outcome
-hallStep d (bytes s) = stepOf d s
-hallStep d (hallTick sent) = hallTicked sent d
+-- of the row before a hall tick: the wait of the drive at a place, and whether it is due
+abbrev pub waitAt : List Drive → ℕ → ℕ
+waitAt row i = at row i .wait
 
--- "the one that waited longest goes, lower number first among equals": whether the drive at `j`, if it is due, goes before that at `i`
-abbrev pub goesBefore : List Drive → ℕ → ℕ → Bool
-goesBefore row i j =
-    dueNow (at row j) && (ltb (at row i .wait) (at row j .wait) || (eqb (at row i .wait) (at row j .wait) && ltb j i))
+abbrev pub dueAt : List Drive → ℕ → Bool
+dueAt row i = dueNow (at row i)
 
--- whether the drive at `i` is that one: it is due, and none goes before it
-unfoldable pub longest : List Drive → ℕ → Bool
-longest row i = dueNow (at row i) && eqb (countBelow (length row) (goesBefore row i)) 0
+-- W-210: "A hall tick must send exactly the smaller of the quota and the number due, longest wait first, lower number among equals": by the
+-- waits, who is due, the number of drives and the quota, the drive at `i` goes if it is due and fewer due drives than the quota go before
+-- it. That so many go is `sent-count` in QuotaLaws.antt.
+abbrev pub longestFirst : (ℕ → ℕ) → (ℕ → Bool) → ℕ → ℕ → ℕ → Bool
+longestFirst wait isDue n quota i = foremost (largerFirst wait) isDue n quota i
 
--- Which places a hall tick may send: due ones; "at most that many reports"; "If any is due, the one that waited longest goes"; "which
--- other due drives go is free".
-unfoldable pub allowed : ℕ → List Drive → (ℕ → Bool) → Bool
-allowed quota row sends =
-    allBelow (length row) (λ i. implies (sends i) (dueNow (at row i)))
-    && (leb (countBelow (length row) sends) quota
-    && allBelow (length row) (λ i. implies (longest row i) (sends i)))
-
--- whether a call, if it is a hall tick that is carried out, sends what it may
-abbrev pub allowedCall : List Drive → Call → Bool
-allowedCall row (give list s room) = true
-allowedCall row (tick quota sends room) = implies (carriedOut (length row) (tick quota sends room)) (allowed quota row sends)
-
--- and each call of a list
-unfoldable pub allowedCalls : List Drive → List Call → Bool
-allowedCalls row [] = true
-allowedCalls row (c ∷ cs) = allowedCall row c && allowedCalls (rowAfter hallStep row (turnsOf (length row) c)) cs
+-- whom it sends of a row
+unfoldable pub sends : ℕ → List Drive → ℕ → Bool
+sends quota row i = longestFirst (waitAt row) (dueAt row) (length row) quota i

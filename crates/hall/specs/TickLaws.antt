@@ -16,7 +16,8 @@ use Rattle.damper.specs.declared.Drive.{Drive}
 use Rattle.damper.specs.declared.Outcome.{Outcome}
 use Rattle.damper.specs.Record.{freshDrive}
 use Rattle.damper.specs.Carry.{StepOn, answersIn}
-use Rattle.hall.specs.Hall.{Given, Turn, turn, at, turned, rowAfter, sharedOut}
+use Rattle.hall.specs.Hall.{at}
+use Rattle.hall.specs.Turns.{Given, Turn, turn, turned, rowAfter, sharedOut}
 use Rattle.hall.specs.Laws.{turned-length, answers-length}
 use Rattle.hall.specs.ListLaws.{places-named, places-once}
 use Rattle.hall.specs.OnceLaws.{once-row, once-turned, once-shared}

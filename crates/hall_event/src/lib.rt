@@ -3,8 +3,8 @@ ghost use mathlib.Core.Path.{_≡_};
 ghost use lib.ListN.{length};
 ghost use Rattle.answer.specs.Answer.{numberOf};
 ghost use Rattle.damper.specs.Step.{stepOf};
-ghost use Rattle.hall.specs.Hall.{give, callRefusal, turnsOf, rowAfter, answersAfter};
-ghost use Rattle.hall.specs.Quota.{hallStep};
+ghost use Rattle.hall.specs.Hall.{give, callRefusal};
+ghost use Rattle.hall.specs.Turns.{turnsOf, rowAfter, answersAfter, hallStep};
 use answer::Answer;
 use damper::Drive;
 
@@ -64,7 +64,7 @@ pub extern "C" fn damper_hall_event_layout3(
     answers: &mut [u8],
 ) -> u8
     ensures { λ r. ⌜ (r ≡ callRefusal (length (now (row .entry))) (give (now (list .entry)) (now (s .entry)) (length (now (answers .entry)))))
-        × (now (row .exit) ≡ rowAfter hallStep (now (row .entry)) (turnsOf (length (now (row .entry))) (give (now (list .entry)) (now (s .entry)) (length (now (answers .entry))))))
+        × (now (row .exit) ≡ rowAfter hallStep (now (row .entry)) (turnsOf (now (row .entry)) (give (now (list .entry)) (now (s .entry)) (length (now (answers .entry))))))
         × (now (answers .exit) ≡ answersAfter hallStep (now (row .entry)) (give (now (list .entry)) (now (s .entry)) (length (now (answers .entry)))) (now (answers .entry))) ⌝ }
 {
     let refusal = hall::event_refusal(row.len(), list, s, answers.len());

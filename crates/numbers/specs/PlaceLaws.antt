@@ -1,6 +1,6 @@
 -- Laws of tests of the numbers below a bound, and of rows that a function gives.
 use mathlib.Core.Path.{_≡_, refl, sym, ap, _∙_}
-use mathlib.Core.Bool.{Bool, true, false, not, false≢true}
+use mathlib.Core.Bool.{Bool, true, false, false≢true}
 use mathlib.Core.List.{List, map}
 use Prim.Native.Nat.{ℕ, zero, suc, _+_, _<_, _≤_}
 use native.Mathlib.Omega.{arith}
@@ -9,8 +9,8 @@ use lib.Dec.{eqb}
 use lib.ListN.{length, getD, set, length-map, length-set}
 use lib.Seq.{ext-getD, getD-set-same, getD-set-other}
 use borrow.Author.Tests.{eqb-true, eqb-false}
-use Rattle.numbers.specs.Laws.{cases, and-left, and-right, and-intro}
-use Rattle.numbers.specs.Places.{placesFrom, tabulate, allBelow, countBelow, implies}
+use Rattle.numbers.specs.Laws.{cases}
+use Rattle.numbers.specs.Places.{placesFrom, tabulate, countBelow, implies}
 
 length-places : (i n : ℕ) → length (placesFrom i n) ≡ n
 length-places i zero = refl
@@ -30,25 +30,7 @@ split-last : {C : Type 0} (n i : ℕ) → i < suc n → (i ≡ n → C) → (i <
 split-last n i h here there = cases (eqb i n) (λ e. here (eqb-true i n e)) (λ e. let q = eqb-false i n e in there (omega arith))
 
 module _ (p : ℕ → Bool) where
-  pub all-at : (n : ℕ) → allBelow n p ≡ true → (i : ℕ) → i < n → p i ≡ true
-  unfolding allBelow
-  all-at zero h i l = absurd (not-suc-le-zero l)
-  all-at (suc n) h i l = split-last n i l (λ e. rw e (and-right (allBelow n p) (p n) h)) (all-at n (and-left (allBelow n p) (p n) h) i)
-
-  pub all-by : (n : ℕ) → ((i : ℕ) → i < n → p i ≡ true) → allBelow n p ≡ true
-  unfolding allBelow
-  all-by zero h = refl
-  all-by (suc n) h = and-intro (all-by n (λ i l. h i (omega arith))) (h n (omega arith))
-
   -- none passes
-  pub count-none : (n : ℕ) → countBelow n p ≡ 0 → (i : ℕ) → i < n → p i ≡ false
-  unfolding countBelow
-  count-none zero h i l = absurd (not-suc-le-zero l)
-  count-none (suc n) h i l =
-      cases (p n)
-      (λ e. let z : countBelow n p + 1 ≡ 0 = rw e at h in absurd (omega arith))
-      (λ e. let z : countBelow n p ≡ 0 = rw e at h in split-last n i l (λ s. rw s e) (count-none n z i))
-
   pub none-counted : (n : ℕ) → ((i : ℕ) → i < n → p i ≡ false) → countBelow n p ≡ 0
   unfolding countBelow
   none-counted zero h = refl
@@ -90,6 +72,20 @@ module _ (p q : ℕ → Bool) where
   unfolding countBelow
   count-same zero h = refl
   count-same (suc n) h = rw (h n (omega arith), count-same n (λ i l. h i (omega arith)))
+
+-- of two tests that no place passes both, and a third that all these pass
+pub count-apart : (p q r : ℕ → Bool) (n : ℕ) → ((i : ℕ) → i < n → p i ≡ true → (r i ≡ true) × (q i ≡ false))
+    → ((i : ℕ) → i < n → q i ≡ true → r i ≡ true) → countBelow n p + countBelow n q ≤ countBelow n r
+unfolding countBelow
+count-apart p q r zero f g = omega arith
+count-apart p q r (suc n) f g =
+    let h = count-apart p q r n (λ i l. f i (omega arith)) (λ i l. g i (omega arith)) in
+    cases (p n)
+    (λ e. let x = f n (omega arith) e in rw (e, x .0, x .1) (omega arith))
+    (λ e.
+    cases (q n)
+    (λ s. rw (e, s, g n (omega arith) s) (omega arith))
+    (λ s. rw (e, s) (cases (r n) (λ t. rw t (omega arith)) (λ t. rw t h))))
 
 -- one that passes is counted
 pub counted : (p : ℕ → Bool) (n i : ℕ) → i < n → p i ≡ true → 0 < countBelow n p

@@ -1,5 +1,5 @@
--- Numbers below a bound, as the places of a row: tests of them, how many pass, and the row that a function gives.
-use mathlib.Core.Bool.{Bool, true, not, _&&_, _||_}
+-- Numbers below a bound, as the places of a row: how many pass a test, and the row that a function gives.
+use mathlib.Core.Bool.{Bool, not, _||_}
 use mathlib.Core.List.{List, [], _∷_, map}
 use Prim.Native.Nat.{ℕ, zero, suc, _+_}
 use Rattle.numbers.specs.Numbers.{pick}
@@ -13,12 +13,7 @@ placesFrom i (suc n) = i ∷ placesFrom (i + 1) n
 abbrev pub tabulate : {A : Type 0} → ℕ → (ℕ → A) → List A
 tabulate n f = map f (placesFrom 0 n)
 
--- whether all numbers below `n` pass
-unfoldable pub allBelow : ℕ → (ℕ → Bool) → Bool
-allBelow zero p = true
-allBelow (suc n) p = allBelow n p && p n
-
--- how many do
+-- how many numbers below `n` pass a test
 unfoldable pub countBelow : ℕ → (ℕ → Bool) → ℕ
 countBelow zero p = 0
 countBelow (suc n) p = pick (p n) (countBelow n p + 1) (countBelow n p)

@@ -100,6 +100,13 @@ module _ (behind : ℕ → ℕ → Bool) (order : Order behind) (p : ℕ → Boo
       count-same _ _ n (λ i l. first-old n most i q) ∙ first-count n most in
       rw (q, below))
 
+  -- Where one that is admitted does not go first, as many do as are asked for.
+  pub first-full : (n most i : ℕ) → p i ≡ true → first n most i ≡ false → countBelow n (first n most) ≡ most
+  first-full n most i q f =
+      let least : most ≤ ahead n i = ltb-false (ahead n i) most (rw q at f) in
+      let bound = rank-most n i in
+      first-count n most ∙ omega arith
+
   -- Some that are admitted, as many as are asked for, each of them before each of the others: these go first.
   pub first-only : (g : ℕ → Bool) (n most : ℕ) → countBelow n g ≡ most
       → ((i : ℕ) → i < n → g i ≡ true → p i ≡ true)

@@ -10,7 +10,8 @@ use Rattle.numbers.specs.Every.{Every}
 use Rattle.numbers.specs.Places.{placesFrom}
 use Rattle.event.specs.Event.{event, bytesOf}
 use Rattle.event.specs.Kinds as Kind
-use Rattle.hall.specs.Hall.{give, tick, badRow, badNumber, isTick, badEvent, namedIn, namesTwice, badQuota, tickBytes, callRefusal}
+use Rattle.hall.specs.Hall.{give, tick, badRow, badNumber, isTick, badEvent, namedIn, namesTwice, badQuota, callRefusal}
+use Rattle.hall.specs.Turns.{tickBytes}
 use Rattle.shift.specs.Shift.{pageRefusal}
 use Rattle.refuted_hall.specs.Closed.{computation, Case, Refuted, all-refuted}
 
@@ -75,11 +76,10 @@ page17 = reason 17 (λ c. ltb (c .bytes) (29 * c .drives))
 -- In their order they are the product's refusals, of every call.
 pub own : ((c : EventCall)
     → callRefusal (c .drives) (give (c .list) (c .bytes) (c .room)) ≡ firstOf (row14 ∷ number15 ∷ given16 ∷ twice19 ∷ []) c)
-    × ((c : TickCall) (sends : ℕ → Bool)
-    → callRefusal (c .drives) (tick (c .quota) sends (c .room)) ≡ firstOf (tickRow14 ∷ room16 ∷ quota18 ∷ []) c)
+    × ((c : TickCall) → callRefusal (c .drives) (tick (c .quota) (c .room)) ≡ firstOf (tickRow14 ∷ room16 ∷ quota18 ∷ []) c)
     × ((c : PageCall) → pageRefusal (c .drives) (c .bytes) ≡ firstOf (pageRow14 ∷ page17 ∷ []) c)
 unfolding callRefusal pageRefusal
-own = (λ c. refl, λ c sends. refl, λ c. refl)
+own = (λ c. refl, λ c. refl, λ c. refl)
 
 -- Wrong reasons.
 
@@ -178,7 +178,7 @@ eventBy rs n list s room number = record {
 
 abbrev tickBy : List (Reason TickCall) → ℕ → ℕ → ℕ → ℕ → Case
 tickBy rs n quota room number = record {
-  given = callRefusal n (tick quota (λ i. false) room) ∷ [];
+  given = callRefusal n (tick quota room) ∷ [];
   wrong = firstOf rs record { drives = n; quota = quota; room = room } ∷ [];
   paper = number ∷ [];
 }

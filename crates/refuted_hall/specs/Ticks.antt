@@ -1,13 +1,13 @@
--- Wrong hall ticks of one drive and wrong rules of who is sent (W-204), each with an input on which document 02 says otherwise.
+-- Wrong hall ticks of one drive (W-204) and wrong rules of who is sent (W-210), each with an input on which document 02 says otherwise.
 use mathlib.Core.Path.{_≡_, refl}
 use mathlib.Core.Bool.{Bool, true, false, not, _&&_, _||_}
 use mathlib.Core.List.{List, [], _∷_}
-use Prim.Native.Nat.{ℕ, _+_, _*_}
-use lib.Dec.{ltb, leb, eqb}
+use Prim.Native.Nat.{ℕ, _+_, _-_, _*_}
+use lib.Dec.{ltb, eqb}
 use lib.ListN.{length, getD, set}
 use Rattle.numbers.specs.Numbers.{pick, bit, next}
 use Rattle.numbers.specs.Every.{Every}
-use Rattle.numbers.specs.Places.{allBelow, countBelow, implies}
+use Rattle.numbers.specs.Places.{tabulate, countBelow}
 use Rattle.table.specs.Table.{freshValues}
 use Rattle.rules.specs.Commands.{noCommands, interlocked}
 use Rattle.answer.specs.declared.Answer.{Answer}
@@ -19,8 +19,9 @@ use Rattle.damper.specs.Record.{drive, last, noRun, freshDrive, withCounts, wit
 use Rattle.damper.specs.WellFormed.{wellFormed}
 use Rattle.damper.specs.Tick.{advance, due, reported}
 use Rattle.damper.specs.Step.{outcome, tickWith}
-use Rattle.hall.specs.Hall.{at, tickNumber}
-use Rattle.hall.specs.Quota.{dueNow, waitAfter, hallTicked, longest, allowed}
+use Rattle.hall.specs.Hall.{at}
+use Rattle.hall.specs.Quota.{dueNow, waitAfter, hallTicked, sends}
+use Rattle.hall.specs.Turns.{tickNumber}
 use Rattle.refuted_hall.specs.Closed.{computation, Case, Refuted, all-refuted}
 
 -- a drive with MinRepTime 1, due at the next tick for want of a report, that waited `w` hall ticks; one that is not due; one that is not
@@ -141,98 +142,119 @@ ticks-refuted = all-refuted tickTable refl
 
 -- Wrong rules of who is sent.
 
+-- whether the drive at a place goes, by the quota and the row before the tick
 abbrev Rule : Type 0
-Rule = ℕ → List Drive → (ℕ → Bool) → Bool
+Rule = ℕ → List Drive → ℕ → Bool
 
--- the three sentences, with their operands left open: who is due; how many go, by the quota; whether the drive at `j`, if it is due, goes
--- before that at `i`
-abbrev onlyDue : (Drive → Bool) → Rule
-onlyDue isDue quota row sends = allBelow (length row) (λ i. implies (sends i) (isDue (at row i)))
+-- W-210's rule with its operands left open: who is due, whose turn it is before that of `i`, and how many go, by the quota
+abbrev Before : Type 0
+Before = List Drive → ℕ → ℕ → Bool
 
-abbrev atMost : (ℕ → ℕ) → Rule
-atMost many quota row sends = leb (countBelow (length row) sends) (many quota)
+abbrev ruleOf : (Drive → Bool) → Before → (ℕ → ℕ) → Rule
+ruleOf isDue before most quota row i = isDue (at row i) && ltb (countBelow (length row) (λ j. before row i j)) (most quota)
 
-abbrev longestGoes : (Drive → Bool) → (Drive → Drive → ℕ → ℕ → Bool) → Rule
-longestGoes isDue before quota row sends =
-    allBelow (length row)
-    (λ i.
-    let first =
-    isDue (at row i) && eqb (countBelow (length row) (λ j. isDue (at row j) && before (at row i) (at row j) i j)) 0 in
-    implies first (sends i))
+-- a drive that is due and goes first by a number: the larger one, or the same and the lower place
+abbrev dueAnd : (Drive → Bool) → (Drive → ℕ) → Before
+dueAnd isDue number row i j =
+    isDue (at row j)
+    && (ltb (number (at row i)) (number (at row j)) || (eqb (number (at row i)) (number (at row j)) && ltb j i))
 
-abbrev ruleOf : Rule → Rule → Rule → Rule
-ruleOf due most first quota row sends = due quota row sends && (most quota row sends && first quota row sends)
+abbrev waited : Drive → ℕ
+waited d = d .wait
 
--- the product's operands, of which its rule is made
-abbrev waitedLonger : Drive → Drive → ℕ → ℕ → Bool
-waitedLonger a b i j = ltb (a .wait) (b .wait) || (eqb (a .wait) (b .wait) && ltb j i)
+-- the product's rule has these operands
+pub own : (quota : ℕ) (row : List Drive) (i : ℕ) → sends quota row i ≡ ruleOf dueNow (dueAnd dueNow waited) (λ q. q) quota row i
+unfolding sends
+own quota row i = refl
 
-pub own : (quota : ℕ) (row : List Drive) (sends : ℕ → Bool)
-    → allowed quota row sends ≡ ruleOf (onlyDue dueNow) (atMost (λ q. q)) (longestGoes dueNow waitedLonger) quota row sends
-unfolding allowed longest
-own quota row sends = refl
+-- one report fewer than the quota, and one more; one alone; all that are due
+abbrev oneFewer : Rule
+oneFewer = ruleOf dueNow (dueAnd dueNow waited) (λ q. q - 1)
 
--- free of one sentence: any drive may go, all that are due may, the one that waited longest may stay
-abbrev anything : Rule
-anything quota row sends = true
-
-abbrev undueMayGo : Rule
-undueMayGo = ruleOf anything (atMost (λ q. q)) (longestGoes dueNow waitedLonger)
-
-abbrev allMayGo : Rule
-allMayGo = ruleOf (onlyDue dueNow) anything (longestGoes dueNow waitedLonger)
-
-abbrev longestMayStay : Rule
-longestMayStay = ruleOf (onlyDue dueNow) (atMost (λ q. q)) anything
-
--- one report more than the quota
 abbrev oneMore : Rule
-oneMore = ruleOf (onlyDue dueNow) (atMost (λ q. q + 1)) (longestGoes dueNow waitedLonger)
+oneMore = ruleOf dueNow (dueAnd dueNow waited) (λ q. q + 1)
 
--- of drives that waited as long the one with the higher number goes; the one that was silent longest goes
+abbrev oneAlone : Rule
+oneAlone = ruleOf dueNow (dueAnd dueNow waited) (λ q. 1)
+
+abbrev allGo : Rule
+allGo = ruleOf dueNow (dueAnd dueNow waited) (λ q. 64)
+
+-- of drives that waited as long the one with the higher number first
 abbrev higherFirst : Rule
 higherFirst =
-    ruleOf (onlyDue dueNow) (atMost (λ q. q))
-    (longestGoes dueNow (λ a b i j. ltb (a .wait) (b .wait) || (eqb (a .wait) (b .wait) && ltb i j)))
+    ruleOf dueNow
+    (λ row i j. dueNow (at row j) && (ltb (waited (at row i)) (waited (at row j)) || (eqb (waited (at row i)) (waited (at row j)) && ltb i j)))
+    (λ q. q)
+
+-- the shortest wait first
+abbrev shortestFirst : Rule
+shortestFirst =
+    ruleOf dueNow
+    (λ row i j. dueNow (at row j) && (ltb (waited (at row j)) (waited (at row i)) || (eqb (waited (at row i)) (waited (at row j)) && ltb j i)))
+    (λ q. q)
+
+-- by the waits as the tick leaves them where none is sent; by how long a drive was silent; by number alone
+abbrev waitsAfter : Rule
+waitsAfter = ruleOf dueNow (dueAnd dueNow (λ d. next (d .wait))) (λ q. q)
 
 abbrev silentLongest : Rule
-silentLongest =
-    ruleOf (onlyDue dueNow) (atMost (λ q. q))
-    (longestGoes dueNow (λ a b i j. ltb (a .since) (b .since) || (eqb (a .since) (b .since) && ltb j i)))
+silentLongest = ruleOf dueNow (dueAnd dueNow (λ d. d .since)) (λ q. q)
 
--- due by the record as it is before the tick
+abbrev byNumber : Rule
+byNumber = ruleOf dueNow (dueAnd dueNow (λ d. 0)) (λ q. q)
+
+-- the one that waited longest, and others by number
+abbrev restByNumber : Rule
+restByNumber quota row i =
+    let first : ℕ → Bool = λ j. dueNow (at row j) && eqb (countBelow (length row) (λ k. dueAnd dueNow waited row j k)) 0 in
+    dueNow (at row i) && (first i || ltb (countBelow i (λ j. dueNow (at row j) && not (first j))) (quota - 1))
+
+-- a drive that is not due goes; one takes a place of the quota
+abbrev undueGoes : Rule
+undueGoes = ruleOf wellFormed (dueAnd wellFormed waited) (λ q. q)
+
+abbrev undueTakesAPlace : Rule
+undueTakesAPlace = ruleOf dueNow (dueAnd (λ d. true) waited) (λ q. q)
+
+-- due by the record as it is before the tick; also where the record is not well formed
 abbrev dueBefore : Drive → Bool
 dueBefore d = wellFormed d && due d
 
 abbrev dueBeforeTheTick : Rule
-dueBeforeTheTick = ruleOf (onlyDue dueBefore) (atMost (λ q. q)) (longestGoes dueBefore waitedLonger)
+dueBeforeTheTick = ruleOf dueBefore (dueAnd dueBefore waited) (λ q. q)
 
--- due also where the record is not well formed
 abbrev dueUnformed : Rule
-dueUnformed = ruleOf (onlyDue (λ d. due (advance d .drive))) (atMost (λ q. q)) (longestGoes (λ d. due (advance d .drive)) waitedLonger)
+dueUnformed = ruleOf (λ d. due (advance d .drive)) (dueAnd (λ d. due (advance d .drive)) waited) (λ q. q)
 
--- a row, a quota, at which places it sends, and whether it may by document 02: 1 if so
-abbrev ruledBy : Rule → List Drive → ℕ → List Bool → ℕ → Case
-ruledBy wrong row quota sends may = record {
-  given = bit (allowed quota row (λ i. getD sends i false)) 1 ∷ [];
-  wrong = bit (wrong quota row (λ i. getD sends i false)) 1 ∷ [];
-  paper = may ∷ [];
-}
+-- a row, a quota, and who is sent by document 02, place by place: 1 if so
+abbrev whoGoes : Rule → ℕ → List Drive → List ℕ
+whoGoes rule quota row = tabulate (length row) (λ i. bit (rule quota row i) 1)
+
+abbrev ruledBy : Rule → ℕ → List Drive → List ℕ → Case
+ruledBy wrong quota row who = record { given = whoGoes sends quota row; wrong = whoGoes wrong quota row; paper = who }
 
 abbrev pub ruleTable : List Case
 ruleTable =
-    -- only due drives go, and one that is not well formed never is
-    ruledBy undueMayGo (undue 0 ∷ quick 0 ∷ []) 2 (true ∷ true ∷ []) 0
-    ∷ ruledBy dueUnformed (withCounts (broken 0) 0 9 ∷ quick 0 ∷ []) 2 (false ∷ true ∷ []) 1
-    -- "sends at most that many reports"
-    ∷ ruledBy allMayGo (quick 0 ∷ quick 0 ∷ quick 0 ∷ []) 1 (true ∷ true ∷ true ∷ []) 0
-    ∷ ruledBy oneMore (quick 0 ∷ quick 0 ∷ []) 1 (true ∷ true ∷ []) 0
-    -- "If any is due, the one that waited longest goes, lower number first among equals"
-    ∷ ruledBy longestMayStay (quick 3 ∷ quick 5 ∷ []) 1 (true ∷ false ∷ []) 0
-    ∷ ruledBy higherFirst (quick 5 ∷ quick 5 ∷ []) 1 (true ∷ false ∷ []) 1
-    ∷ ruledBy silentLongest (withCounts (quick 3) 0 9 ∷ quick 5 ∷ []) 1 (false ∷ true ∷ []) 1
+    -- "exactly the smaller of the quota and the number due"
+    ruledBy oneFewer 2 (quick 0 ∷ quick 0 ∷ quick 0 ∷ []) (1 ∷ 1 ∷ 0 ∷ [])
+    ∷ ruledBy oneMore 1 (quick 0 ∷ quick 0 ∷ []) (1 ∷ 0 ∷ [])
+    ∷ ruledBy oneAlone 8 (quick 0 ∷ quick 0 ∷ quick 0 ∷ []) (1 ∷ 1 ∷ 1 ∷ [])
+    ∷ ruledBy allGo 1 (quick 0 ∷ quick 0 ∷ quick 0 ∷ []) (1 ∷ 0 ∷ 0 ∷ [])
+    -- "longest wait first": by the waits from before the tick
+    ∷ ruledBy shortestFirst 1 (quick 3 ∷ quick 5 ∷ []) (0 ∷ 1 ∷ [])
+    ∷ ruledBy waitsAfter 1 (quick 65534 ∷ quick 65535 ∷ []) (0 ∷ 1 ∷ [])
+    ∷ ruledBy silentLongest 1 (withCounts (quick 3) 0 9 ∷ quick 5 ∷ []) (0 ∷ 1 ∷ [])
+    ∷ ruledBy byNumber 1 (quick 3 ∷ quick 5 ∷ []) (0 ∷ 1 ∷ [])
+    ∷ ruledBy restByNumber 2 (quick 0 ∷ quick 3 ∷ quick 5 ∷ []) (0 ∷ 1 ∷ 1 ∷ [])
+    -- "lower number among equals", also of those behind the first
+    ∷ ruledBy higherFirst 2 (quick 5 ∷ quick 3 ∷ quick 3 ∷ []) (1 ∷ 1 ∷ 0 ∷ [])
+    -- only due drives go and count, and one that is not well formed never is due
+    ∷ ruledBy undueGoes 2 (undue 0 ∷ quick 0 ∷ []) (0 ∷ 1 ∷ [])
+    ∷ ruledBy undueTakesAPlace 1 (undue 9 ∷ quick 0 ∷ []) (0 ∷ 1 ∷ [])
+    ∷ ruledBy dueUnformed 2 (withCounts (broken 0) 0 9 ∷ quick 0 ∷ []) (0 ∷ 1 ∷ [])
     -- "due when the fourth step of a tick would report": MinRepTime is 10, and since rises from 9 to it in the tick's first step
-    ∷ ruledBy dueBeforeTheTick (withCounts freshDrive 0 9 ∷ []) 1 (true ∷ []) 1
+    ∷ ruledBy dueBeforeTheTick 1 (withCounts freshDrive 0 9 ∷ []) (1 ∷ [])
     ∷ []
 
 pub rules-refuted : Every Refuted ruleTable

@@ -1,8 +1,9 @@
--- Document 02, W-201, W-203, W-204, W-205, W-207 in a hall and the bill of W-208, sentence by sentence, in a second form. `P1` is document
--- 01 in its second form, `S` demand 3 (crates/sentences_claim). From the product come its calls and a few words that have theorems of their
--- own: on this page `hallAfter` (calls-after) and `hallTicked` (sent, held, not-due, sent-answer, silent-answer, unformed-answer), on that
--- of the crate sentences `freshDrive`, `stepOf`, `advance`, `statusOf`, `toPercent` and `text`.
+-- Document 02, W-201, W-203, W-204, W-205, W-210, W-207 in a hall and the bill of W-208, sentence by sentence, in a second form. `P1` is
+-- document 01 in its second form, `S` demand 3 (crates/sentences_claim). From the product come its calls and a few words that have theorems
+-- of their own: on this page `hallAfter` (calls-after) and `hallTicked` (sent, held, not-due, sent-answer, silent-answer, unformed-answer),
+-- on that of the crate sentences `freshDrive`, `stepOf`, `advance`, `statusOf`, `toPercent` and `text`.
 use mathlib.Core.Path.{_≡_}
+use mathlib.Core.Logic.{_↔_}
 use mathlib.Core.Bool.{Bool, true, false, not, _&&_, _||_}
 use mathlib.Core.List.{List, [], _∷_, _++_}
 use Prim.Native.Nat.{ℕ, zero, suc, _+_, _-_, _*_, _/_, _%_, _^_, _≤_, _<_}
@@ -15,8 +16,9 @@ use Rattle.damper.specs.Tick.{advance, statusOf}
 use Rattle.damper.specs.Step.{stepOf}
 use Rattle.history.specs.Claim.{Moment, Trace}
 use Rattle.line.specs.Text.{text}
-use Rattle.hall.specs.Hall.{Call, give, tick, Given, bytes, hallTick, hallAfter}
-use Rattle.hall.specs.Quota.{hallTicked, hallStep}
+use Rattle.hall.specs.Hall.{Call, give, tick}
+use Rattle.hall.specs.Quota.{hallTicked}
+use Rattle.hall.specs.Turns.{Given, bytes, hallTick, hallAfter}
 use Rattle.sentences.specs.Words.{_is_, _isNot_, _exceeds_, between, someOf, Condition, choose, firstThatFits}
 use Rattle.sentences.specs.Paper as P1
 use Rattle.sentences_claim.specs.Paper as S
@@ -68,7 +70,7 @@ upTo16 n list s room =
 abbrev pub ofTheCall : ℕ → Call → List Condition
 -- "19 when a list names a drive twice, checked after 16"
 ofTheCall n (give list s room) = upTo16 n list s room ++ ((19, someOf list (λ x. howOften x list exceeds 1)) ∷ [])
-ofTheCall n (tick quota sends room) =
+ofTheCall n (tick quota room) =
     ofTheRow n
     -- "(for the hall tick, than the row of drives)"
     ∷ (16, n exceeds room)
@@ -80,54 +82,70 @@ ofTheCall n (tick quota sends room) =
 abbrev pub answerTo : ℕ → Call → ℕ
 answerTo n c = firstThatFits (ofTheCall n c)
 
--- ── W-204: quiet line ──
+-- ── W-204: quiet line; W-210: use the whole quota ──
 
 -- "A well-formed drive is due when the fourth step of a tick would report.", by the record that steps 1 to 3 leave
 pub record Due (d : Drive) : Type 0 where
   pub formed : P1.WellFormed d
   pub reports : P1.DueIn (advance d .drive)
 
--- of the due drives with a number below `n`, "the one that waited longest .., lower number first among equals"
-pub record Longest (row : List Drive) (n i : ℕ) : Type 0 where
-  pub there : i < n
+-- of the due drives "the one that waited longest .., lower number first among equals"
+pub record Longest (row : List Drive) (i : ℕ) : Type 0 where
+  pub there : i < length row
   pub due : Due (drive row i)
-  pub longest : (j : ℕ) → j < n → Due (drive row j) → drive row j .wait ≤ drive row i .wait
-  pub lower : (j : ℕ) → j < n → Due (drive row j) → drive row j .wait ≡ drive row i .wait → i ≤ j
+  pub longest : (j : ℕ) → j < length row → Due (drive row j) → drive row j .wait ≤ drive row i .wait
+  pub lower : (j : ℕ) → j < length row → Due (drive row j) → drive row j .wait ≡ drive row i .wait → i ≤ j
 
--- how many of the drives 0 to n - 1 are sent
+-- how many of the drives 0 to n - 1 pass a test
 abbrev pub howMany : ℕ → (ℕ → Bool) → ℕ
-howMany zero sends = 0
-howMany (suc n) sends = choose (sends 0) 1 0 + howMany n (λ i. sends (suc i))
+howMany zero p = 0
+howMany (suc n) p = choose (p 0) 1 0 + howMany n (λ i. p (suc i))
 
--- whom a hall tick may send: due drives, "at most that many reports", and "If any is due, the one that waited longest goes"; "which other
--- due drives go is free"
-pub record MaySend (quota : ℕ) (row : List Drive) (sends : ℕ → Bool) : Type 0 where
-  pub due : (i : ℕ) → i < length row → sends i ≡ true → Due (drive row i)
-  pub few : howMany (length row) sends ≤ quota
-  pub first : (i : ℕ) → Longest row (length row) i → sends i ≡ true
+-- "A hall tick must send exactly the smaller of the quota and the number due, longest wait first, lower number among equals.": of the row
+-- before the tick, it sends those that `goes` tells
+pub record Sends (quota : ℕ) (row : List Drive) (goes : ℕ → Bool) : Type 0 where
+  pub due : (i : ℕ) → i < length row → goes i ≡ true → Due (drive row i)
+  -- "exactly the smaller of the quota and the number due", where `isDue` tells who is due
+  pub many : (isDue : ℕ → Bool) → ((i : ℕ) → i < length row → (isDue i ≡ true) ↔ Due (drive row i))
+      → (let many = howMany (length row) isDue in howMany (length row) goes ≡ choose (many exceeds quota) quota many)
+  -- "longest wait first, lower number among equals": who goes, `i`, against who is due and does not, `j`
+  pub longest : (i j : ℕ) → i < length row → j < length row → goes i ≡ true → Due (drive row j) → goes j ≡ false
+      → drive row j .wait ≤ drive row i .wait
+  pub lower : (i j : ℕ) → i < length row → j < length row → goes i ≡ true → Due (drive row j) → goes j ≡ false
+      → drive row j .wait ≡ drive row i .wait → i < j
 
 -- ── W-201: "its own share of the hall's calls"; W-204: what is promised of it ──
 
--- what is so at each hall tick of a list of calls on `row` that is carried out, of its quota, whom it sends and the row before it:
--- `before` are the calls before it
-abbrev pub AtEachTick : (ℕ → (ℕ → Bool) → List Drive → Type 0) → List Drive → List Call → Type 0
-AtEachTick So row cs = (before : List Call) (quota : ℕ) (sends : ℕ → Bool) (room : ℕ) (after : List Call)
-    → cs ≡ before ++ (tick quota sends room ∷ after) → answerTo (length row) (tick quota sends room) ≡ 0
-    → So quota sends (hallAfter hallStep row before)
+-- `So` holds at each hall tick of a list of calls on `row` that is carried out, of its quota and the row that it finds: `before` are the
+-- calls before it
+abbrev pub AtEachTick : (ℕ → List Drive → Type 0) → List Drive → List Call → Type 0
+AtEachTick So row cs = (before : List Call) (quota room : ℕ) (after : List Call)
+    → cs ≡ before ++ (tick quota room ∷ after) → answerTo (length row) (tick quota room) ≡ 0
+    → So quota (hallAfter row before)
 
--- each of them sends whom it may
-abbrev pub EachMaySend : List Drive → List Call → Type 0
-EachMaySend row cs = AtEachTick (λ quota sends now. MaySend quota now sends) row cs
-
--- "A drive due at each of" them
+-- "A drive due at each of" them; W-210: "a drive that stays due"
 abbrev pub DueAtEach : List Drive → ℕ → List Call → Type 0
-DueAtEach row i cs = AtEachTick (λ quota sends now. Due (drive now i)) row cs
+DueAtEach row i cs = AtEachTick (λ quota now. Due (drive now i)) row cs
 
--- how many hall ticks of a list of calls on `n` drives are carried out
+-- W-210: "With one quota throughout"
+abbrev pub OneQuota : ℕ → List Drive → List Call → Type 0
+OneQuota q row cs = AtEachTick (λ quota now. quota ≡ q) row cs
+
+-- how many hall ticks of a list of calls on `n` drives are carried out, and their quotas together
 abbrev pub hallTicks : ℕ → List Call → ℕ
 hallTicks n [] = 0
 hallTicks n (give list s room ∷ cs) = hallTicks n cs
-hallTicks n (tick quota sends room ∷ cs) = choose (answerTo n (tick quota sends room) is 0) 1 0 + hallTicks n cs
+hallTicks n (tick quota room ∷ cs) = choose (answerTo n (tick quota room) is 0) 1 0 + hallTicks n cs
+
+abbrev pub quotas : ℕ → List Call → ℕ
+quotas n [] = 0
+quotas n (give list s room ∷ cs) = quotas n cs
+quotas n (tick quota room ∷ cs) = choose (answerTo n (tick quota room) is 0) quota 0 + quotas n cs
+
+-- W-210: `m` is "the number of drives divided by the quota, rounded up": the least whose product with the quota reaches the number of drives
+pub record RoundedUp (n q m : ℕ) : Type 0 where
+  pub reaches : n ≤ m * q
+  pub least : (k : ℕ) → n ≤ k * q → m ≤ k
 
 -- the drive at `i` is "restarted": one of the calls gives it a restart, and it accepts it
 pub record Restarted (row : List Drive) (i : ℕ) (cs : List Call) : Type 0 where
@@ -139,18 +157,19 @@ pub record Restarted (row : List Drive) (i : ℕ) (cs : List Call) : Type 0 wher
   pub parts : cs ≡ before ++ (give list given room ∷ after)
   pub carried : answerTo (length row) (give list given room) ≡ 0
   pub named : Listed i list
-  pub restart : S.RestartOf (drive (hallAfter hallStep row before) i) given
+  pub restart : S.RestartOf (drive (hallAfter row before) i) given
 
 -- it "is sent at one of them"
-pub record SentAtOne (n i : ℕ) (cs : List Call) : Type 0 where
+pub record SentAtOne (row : List Drive) (i : ℕ) (cs : List Call) : Type 0 where
   pub before : List Call
   pub quota : ℕ
-  pub sends : ℕ → Bool
   pub room : ℕ
   pub after : List Call
-  pub parts : cs ≡ before ++ (tick quota sends room ∷ after)
-  pub carried : answerTo n (tick quota sends room) ≡ 0
-  pub sent : sends i ≡ true
+  pub parts : cs ≡ before ++ (tick quota room ∷ after)
+  pub carried : answerTo (length row) (tick quota room) ≡ 0
+  pub goes : ℕ → Bool
+  pub whom : Sends quota (hallAfter row before) goes
+  pub sent : goes i ≡ true
 
 -- a moment of a trace: what a drive was given, and what it made of it
 abbrev pub moment : List ℕ → Outcome → Moment
@@ -166,11 +185,11 @@ pub data ShareTrace (row : List Drive) (i : ℕ) : List Call → Trace → Type 
       → answerTo (length row) (give list s room) ≡ 0 → (Listed i list → ⊥) → ShareTrace row i (cs ++ (give list s room ∷ [])) t
   named : {cs : List Call} {t : Trace} → ShareTrace row i cs t → (list s : List ℕ) (room : ℕ)
       → answerTo (length row) (give list s room) ≡ 0 → Listed i list
-      → ShareTrace row i (cs ++ (give list s room ∷ [])) (moment s (stepOf (drive (hallAfter hallStep row cs) i) s) ∷ t)
-  ticked : {cs : List Call} {t : Trace} → ShareTrace row i cs t → (quota : ℕ) (sends : ℕ → Bool) (room : ℕ)
-      → answerTo (length row) (tick quota sends room) ≡ 0
-      → ShareTrace row i (cs ++ (tick quota sends room ∷ []))
-      (moment (0x5a ∷ 0xc3 ∷ 1 ∷ 0 ∷ 0 ∷ 0 ∷ []) (hallTicked (sends i) (drive (hallAfter hallStep row cs) i)) ∷ t)
+      → ShareTrace row i (cs ++ (give list s room ∷ [])) (moment s (stepOf (drive (hallAfter row cs) i) s) ∷ t)
+  ticked : {cs : List Call} {t : Trace} → ShareTrace row i cs t → (quota room : ℕ) → answerTo (length row) (tick quota room) ≡ 0
+      → (goes : ℕ → Bool) → Sends quota (hallAfter row cs) goes
+      → ShareTrace row i (cs ++ (tick quota room ∷ []))
+      (moment (0x5a ∷ 0xc3 ∷ 1 ∷ 0 ∷ 0 ∷ 0 ∷ []) (hallTicked (goes i) (drive (hallAfter row cs) i)) ∷ t)
 
 -- "which replaces the waiting limb for halls": of the records of `new`, which came after the trace `old`, each tick breaks that limb and none
 -- is a restart; `m` is any of them, and `earlier` what is of `new` before it

@@ -177,7 +177,7 @@ same-call n (give list s room) =
     in-order-4 (badRow n) (badNumber n list) (badEvent list s room) (namesTwice list)
     ∙ (λ i. firstThatFits
     ((14, same-row n i) ∷ (15, same-number n list i) ∷ (16, same-event list s room i) ∷ (19, same-twice list i) ∷ []))
-same-call n (tick quota sends room) =
+same-call n (tick quota room) =
     in-order-3 (badRow n) (ltb room n) (badQuota quota)
     ∙ (λ i. firstThatFits ((14, same-row n i) ∷ (16, ltb room n) ∷ (18, same-quota quota i) ∷ []))
 

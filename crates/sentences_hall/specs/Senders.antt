@@ -1,34 +1,33 @@
--- Proofs: which drives are due, and whom a hall tick may send.
+-- Proofs: which drives are due, and whom a hall tick sends.
 use mathlib.Core.Path.{_≡_, refl, sym, ap, _∙_}
 use mathlib.Core.Logic.{_↔_}
-use mathlib.Core.Bool.{Bool, true, false, _&&_, _||_, false≢true}
+use mathlib.Core.Bool.{Bool, true, false≢true}
 use mathlib.Core.List.{List, [], _∷_}
-use Prim.Native.Nat.{ℕ, zero, suc, _+_, _≤_, _<_}
+use Prim.Native.Nat.{ℕ, zero, suc, _+_, _≤_, _<_, min}
 use native.Mathlib.Omega.{arith}
-use native.Mathlib.Nat.{not-suc-le-zero}
-use lib.Dec.{ltb, leb, eqb}
 use lib.ListN.{length}
-use borrow.Author.Tests.{eqb-true, eqb-false, eq-eqb, ltb-true, ltb-false, le-ltb, leb-true, le-leb}
-use Rattle.numbers.specs.Laws.{cases, and-left, and-right, and-intro, or-left, or-right}
-use Rattle.numbers.specs.Places.{allBelow, countBelow, implies}
-use Rattle.numbers.specs.PlaceLaws.{implied, implies-by, all-at, all-by, count-none, none-counted}
+use borrow.Author.Tests.{ltb-true, ltb-false}
+use Rattle.numbers.specs.Laws.{cases, and-left, and-right, and-intro}
+use Rattle.numbers.specs.Places.{countBelow}
+use Rattle.numbers.specs.PlaceLaws.{count-same, none-counted}
+use Rattle.order.specs.Order.{largerFirst, foremost}
+use Rattle.order.specs.Laws.{larger-by, by-number, first-only}
 use Rattle.answer.specs.Answer.{isReport}
 use Rattle.event.specs.Event.{eventIn}
 use Rattle.damper.specs.declared.Drive.{Drive}
 use Rattle.damper.specs.WellFormed.{wellFormed}
-use Rattle.damper.specs.Tick.{advance, statusOf, due}
+use Rattle.damper.specs.Tick.{advance, statusOf}
 use Rattle.damper.specs.Step.{refusalOf, stepOf}
 use Rattle.invariant.specs.Effects.{step-refused, step-accepted, report-after}
-use Rattle.hall.specs.Hall.{Call, tick, callRefusal, turnsOf, rowAfter}
-use Rattle.hall.specs.Quota.{dueNow, hallStep, goesBefore, longest, allowed, allowedCall, allowedCalls}
-use Rattle.sentences.specs.Words.{choose}
+use Rattle.hall.specs.Quota.{dueNow, waitAt, dueAt, sends}
+use Rattle.hall.specs.QuotaLaws.{sent-due, sent-count, held-full, sent-first}
+use Rattle.sentences.specs.Words.{_exceeds_, choose}
 use Rattle.sentences.specs.Paper as P1
 use Rattle.sentences.specs.Refusals.{same-refusals}
 use Rattle.sentences.specs.Rules.{same-due}
 use Rattle.sentences.specs.Forms.{same-formed}
 use Rattle.sentences.specs.Prints.{same-report}
 use Rattle.sentences_hall.specs.Paper as P
-use Rattle.sentences_hall.specs.Refused.{same-call}
 
 -- ── Due ──
 
@@ -42,9 +41,6 @@ same-due-now d =
       },
       λ h. and-intro (same-formed d .1 (h .formed)) (same-due n (statusOf n) .1 (h .reports)),
     )
-
-pub not-due : (d : Drive) → dueNow d ≡ false → P.Due d → ⊥
-not-due d e h = false≢true (sym e ∙ same-due-now d .1 h)
 
 -- a tick, in bytes
 abbrev pub aTick : List ℕ
@@ -66,106 +62,7 @@ due-reports d =
     let r = same-report (stepOf d aTick .answer) in
     (λ e. r .0 (tick-report d ∙ e), λ h. sym (tick-report d) ∙ r .1 h)
 
--- ── The one that waited longest ──
-
-longest-is : (row : List Drive) (i : ℕ) → i < length row → longest row i ≡ true → P.Longest row (length row) i
-unfolding longest
-longest-is row i l e =
-    let isDue = and-left (dueNow (P.drive row i)) _ e in
-    let none = count-none (goesBefore row i) (length row) (eqb-true _ 0 (and-right (dueNow (P.drive row i)) _ e)) in
-    record {
-      there = l;
-      due = same-due-now _ .0 isDue;
-      longest = λ j k h. ltb-false _ _ (or-left (ltb (P.drive row i .wait) (P.drive row j .wait)) _ (behind j h (none j k)));
-      lower = λ j k h w.
-          let f = or-right (ltb (P.drive row i .wait) (P.drive row j .wait)) _ (behind j h (none j k)) in
-          ltb-false j i (rw (eq-eqb (P.drive row i .wait) (P.drive row j .wait) (sym w)) at f);
-    }
-  where
-    behind : (j : ℕ) → P.Due (P.drive row j) → goesBefore row i j ≡ false
-        → (ltb (P.drive row i .wait) (P.drive row j .wait) || (eqb (P.drive row i .wait) (P.drive row j .wait) && ltb j i)) ≡ false
-    behind j h e = rw (same-due-now (P.drive row j) .1 h) at e
-
-is-longest : (row : List Drive) (i : ℕ) → P.Longest row (length row) i → longest row i ≡ true
-unfolding longest
-is-longest row i r =
-    and-intro (same-due-now _ .1 (r .due))
-    (eq-eqb _ 0
-    (none-counted (goesBefore row i) (length row)
-    (λ j l.
-    cases (dueNow (P.drive row j))
-    (λ q.
-    let h = same-due-now (P.drive row j) .0 q in
-    rw (q, le-ltb (P.drive row i .wait) (P.drive row j .wait) (r .longest j l h))
-    (cases (eqb (P.drive row i .wait) (P.drive row j .wait))
-    (λ w. rw (w, le-ltb j i (r .lower j l h (sym (eqb-true _ _ w)))))
-    (λ w. rw w)))
-    (λ q. rw q))))
-
-pub same-longest : (row : List Drive) (i : ℕ) → i < length row → (longest row i ≡ true) ↔ P.Longest row (length row) i
-same-longest row i l = (longest-is row i l, is-longest row i)
-
--- it is one
-pub one-longest : (row : List Drive) (n i j : ℕ) → P.Longest row n i → P.Longest row n j → i ≡ j
-one-longest row n i j r t =
-    let a = r .longest j (t .there) (t .due) in
-    let b = t .longest i (r .there) (r .due) in
-    let c = r .lower j (t .there) (t .due) (omega arith) in
-    let d = t .lower i (r .there) (r .due) (omega arith) in
-    omega arith
-
--- and there is one, if any is due
-up-to : {Q : ℕ → Type 0} (n : ℕ) → ((x : ℕ) → x < n → Q x) → Q n → (x : ℕ) → x < suc n → Q x
-up-to {Q} n f q x h = cases (eqb x n) (λ e. rw (eqb-true x n e) q) (λ e. let k = eqb-false x n e in f x (omega arith))
-
-none-or-one : {C : Type 0} (row : List Drive) (n : ℕ)
-    → (((x : ℕ) → x < n → P.Due (P.drive row x) → ⊥) → C) → ((j : ℕ) → P.Longest row n j → C) → C
-none-or-one row zero none one = none (λ x h d. not-suc-le-zero h)
-none-or-one row (suc n) none one =
-    cases (dueNow (P.drive row n))
-    (λ q.
-    none-or-one row n
-    (λ f.
-    one n record {
-      there = omega arith;
-      due = same-due-now _ .0 q;
-      longest = up-to n (λ x h d. absurd (f x h d)) (λ d. omega arith);
-      lower = up-to n (λ x h d w. absurd (f x h d)) (λ d w. omega arith);
-    })
-    (λ j r.
-    let b = r .there in
-    cases (ltb (P.drive row j .wait) (P.drive row n .wait))
-    (λ l.
-    let longer : P.drive row j .wait < P.drive row n .wait = ltb-true _ _ l in
-    one n record {
-      there = omega arith;
-      due = same-due-now _ .0 q;
-      longest = up-to n (λ x h d. omega (arith, r .longest x h d)) (λ d. omega arith);
-      lower = up-to n (λ x h d w. let m = r .longest x h d in absurd (omega arith)) (λ d w. omega arith);
-    })
-    (λ l.
-    one j record {
-      there = omega arith;
-      due = r .due;
-      longest = up-to n (r .longest) (λ d. ltb-false _ _ l);
-      lower = up-to n (r .lower) (λ d w. omega arith);
-    })))
-    (λ q.
-    none-or-one row n
-    (λ f. none (up-to n f (not-due _ q)))
-    (λ j r.
-    let b = r .there in
-    one j record {
-      there = omega arith;
-      due = r .due;
-      longest = up-to n (r .longest) (λ d. absurd (not-due _ q d));
-      lower = up-to n (r .lower) (λ d w. absurd (not-due _ q d));
-    }))
-
-pub some-longest : (row : List Drive) (k : ℕ) → k < length row → P.Due (P.drive row k) → (i : ℕ) × P.Longest row (length row) i
-some-longest row k l h = none-or-one row (length row) (λ f. absurd (f k l h)) (λ j r. (j, r))
-
--- ── Whom a hall tick may send ──
+-- ── How many ──
 
 count-first : (n : ℕ) (p : ℕ → Bool) → countBelow (suc n) p ≡ choose (p 0) 1 0 + countBelow n (λ i. p (suc i))
 unfolding countBelow
@@ -179,97 +76,94 @@ unfolding countBelow
 same-count zero p = refl
 same-count (suc n) p = count-first n p ∙ ap (λ (k : ℕ). choose (p 0) 1 0 + k) (same-count n (λ i. p (suc i)))
 
-module _ (quota : ℕ) (row : List Drive) (sends : ℕ → Bool) where
-  abbrev dueOnly : ℕ → Bool
-  dueOnly i = implies (sends i) (dueNow (P.drive row i))
+-- ── Whom a hall tick sends ──
 
-  abbrev few : Bool
-  few = leb (countBelow (length row) sends) quota
+smaller : (q m : ℕ) → min q m ≡ choose (m exceeds q) q m
+smaller q m =
+    cases (m exceeds q)
+    (λ e. let l = ltb-true q m e in rw e (omega arith))
+    (λ e. let l = ltb-false q m e in rw e (omega arith))
 
-  abbrev firstGoes : ℕ → Bool
-  firstGoes i = implies (longest row i) (sends i)
+module _ (quota : ℕ) (row : List Drive) where
+  abbrev n : ℕ
+  n = length row
 
-  may-send : allowed quota row sends ≡ true → P.MaySend quota row sends
-  unfolding allowed
-  may-send e =
-      let only = and-left (allBelow (length row) dueOnly) _ e in
-      let rest = and-right (allBelow (length row) dueOnly) (few && allBelow (length row) firstGoes) e in
-      let first = and-right few (allBelow (length row) firstGoes) rest in
+  -- those whom the definition sends
+  pub whom-it-sends : P.Sends quota row (sends quota row)
+  whom-it-sends =
       record {
-        due = λ i l s. same-due-now _ .0 (implied (sends i) _ (all-at dueOnly (length row) only i l) s);
-        few = rw (← (same-count (length row) sends)) (leb-true _ _ (and-left few (allBelow (length row) firstGoes) rest));
-        first = λ i r. implied (longest row i) (sends i) (all-at firstGoes (length row) first i (r .there)) (is-longest row i r);
+        due = λ i l e. same-due-now _ .0 (sent-due quota row i e);
+        many = λ isDue tells.
+            let same : countBelow n (dueAt row) ≡ countBelow n isDue =
+            count-same (dueAt row) isDue n
+            (λ i l.
+            cases (isDue i)
+            (λ q. same-due-now _ .1 (tells i l .0 q) ∙ sym q)
+            (λ q. cases (dueAt row i) (λ d. absurd (false≢true (sym q ∙ tells i l .1 (same-due-now _ .0 d)))) (λ d. d ∙ sym q))) in
+            sym (same-count n (sends quota row)) ∙ sent-count quota row ∙ rw same (smaller quota (countBelow n isDue))
+            ∙ ap (λ (m : ℕ). choose (m exceeds quota) quota m) (same-count n isDue);
+        longest = λ i j k l e d f. sent-first quota row j i l (same-due-now _ .1 d) f e .0;
+        lower = λ i j k l e d f w. sent-first quota row j i l (same-due-now _ .1 d) f e .1 w;
       }
 
-  may-be-sent : P.MaySend quota row sends → allowed quota row sends ≡ true
-  unfolding allowed
-  may-be-sent m =
-      and-intro (all-by dueOnly (length row) (λ i l. implies-by (sends i) _ (λ s. same-due-now _ .1 (m .due i l s))))
-      (and-intro (le-leb _ quota (rw (same-count (length row) sends) (m .few)))
-      (all-by firstGoes (length row) (λ i l. implies-by (longest row i) (sends i) (λ e. m .first i (longest-is row i l e)))))
+  -- any that the sentence speaks of are the first of those that are due, as many as they are
+  abbrev First : (ℕ → Bool) → Type 0
+  First goes = (i : ℕ) → i < n → goes i ≡ foremost (largerFirst (waitAt row)) (dueAt row) n (countBelow n goes) i
 
-  pub same-allowed : (allowed quota row sends ≡ true) ↔ P.MaySend quota row sends
-  same-allowed = (may-send, may-be-sent)
+  are-first : (goes : ℕ → Bool) → P.Sends quota row goes → First goes
+  are-first goes s =
+      first-only (largerFirst (waitAt row)) (by-number (waitAt row)) (dueAt row) goes n (countBelow n goes) refl
+      (λ i l e. same-due-now _ .1 (s .due i l e))
+      (λ i j k l d e f.
+      let isDue = same-due-now _ .0 d in
+      larger-by (waitAt row) i j (s .longest j i l k f isDue e) (s .lower j i l k f isDue e))
 
-  -- of a call: where it is not refused
-  pub same-allowed-call : (room : ℕ)
-      → (allowedCall row (tick quota sends room) ≡ true) ↔ (P.answerTo (length row) (tick quota sends room) ≡ 0 → P.MaySend quota row sends)
-  same-allowed-call room =
-      let c = tick quota sends room in
-      let same = same-call (length row) c in (
-        λ e a. may-send (implied (eqb (callRefusal (length row) c) 0) _ e (eq-eqb _ 0 (same ∙ a))),
-        λ f. implies-by (eqb (callRefusal (length row) c) 0) _ (λ q. may-be-sent (f (sym same ∙ eqb-true _ 0 q))),
-      )
+  many-go : (goes : ℕ → Bool) → P.Sends quota row goes → countBelow n goes ≡ countBelow n (sends quota row)
+  many-go goes s =
+      same-count n goes
+      ∙ s .many (dueAt row) (λ i l. same-due-now (P.drive row i))
+      ∙ sym (whom-it-sends .many (dueAt row) (λ i l. same-due-now (P.drive row i)))
+      ∙ sym (same-count n (sends quota row))
 
--- and of calls, each on the row that the one before left
-pub no-call : (row : List Drive) → allowedCalls row [] ≡ true
-unfolding allowedCalls
-no-call row = refl
+  -- so they are those
+  pub sends-only : (goes : ℕ → Bool) → P.Sends quota row goes → (i : ℕ) → i < n → sends quota row i ≡ goes i
+  sends-only goes s i l =
+      are-first (sends quota row) whom-it-sends i l
+      ∙ ap (λ (m : ℕ). foremost (largerFirst (waitAt row)) (dueAt row) n m i) (sym (many-go goes s))
+      ∙ sym (are-first goes s i l)
 
-pub one-more-call : (row : List Drive) (c : Call) (cs : List Call)
-    → (allowedCalls row (c ∷ cs) ≡ true)
-    ↔ ((allowedCall row c ≡ true) × (allowedCalls (rowAfter hallStep row (turnsOf (length row) c)) cs ≡ true))
-unfolding allowedCalls
-one-more-call row c cs = (λ e. (and-left (allowedCall row c) _ e, and-right (allowedCall row c) _ e), λ p. and-intro (p .0) (p .1))
+  sends-by : (goes : ℕ → Bool) → ((i : ℕ) → i < n → sends quota row i ≡ goes i) → P.Sends quota row goes
+  sends-by goes same =
+      record {
+        due = λ i l e. whom-it-sends .due i l (same i l ∙ e);
+        many = λ isDue tells.
+            sym (same-count n goes) ∙ sym (count-same (sends quota row) goes n same) ∙ same-count n (sends quota row)
+            ∙ whom-it-sends .many isDue tells;
+        longest = λ i j k l e d f. whom-it-sends .longest i j k l (same i k ∙ e) d (same j l ∙ f);
+        lower = λ i j k l e d f w. whom-it-sends .lower i j k l (same i k ∙ e) d (same j l ∙ f) w;
+      }
 
--- ── Some set may be sent ──
+  pub same-sends : (goes : ℕ → Bool) → ((i : ℕ) → i < n → sends quota row i ≡ goes i) ↔ P.Sends quota row goes
+  same-sends goes = (sends-by goes, sends-only goes)
 
-count-one : (n : ℕ) (p : ℕ → Bool) → ((i j : ℕ) → i < n → j < n → p i ≡ true → p j ≡ true → i ≡ j) → countBelow n p ≤ 1
-unfolding countBelow
-count-one zero p f = omega arith
-count-one (suc n) p f =
-    cases (p n)
-    (λ e.
-    let z : countBelow n p ≡ 0 =
-    none-counted p n (λ i l. cases (p i) (λ q. let s = f i n (omega arith) (omega arith) q e in absurd (omega arith)) (λ q. q)) in
-    rw e (omega arith))
-    (λ e. rw e (count-one n p (λ i j k l. f i j (omega arith) (omega arith))))
-
--- the one that waited longest alone
-some-may : (quota : ℕ) (row : List Drive) → 1 ≤ quota → P.MaySend quota row (longest row)
-some-may quota row h =
-    let one : (i j : ℕ) → i < length row → j < length row → longest row i ≡ true → longest row j ≡ true → i ≡ j =
-    λ i j k l p q. one-longest row (length row) i j (longest-is row i k p) (longest-is row j l q) in
-    let most = count-one (length row) (longest row) one in
-    record {
-      due = λ i l e. longest-is row i l e .due;
-      few = rw (← (same-count (length row) (longest row))) (omega arith);
-      first = λ i r. is-longest row i r;
-    }
-
-pub some-set : (quota : ℕ) (row : List Drive) → 1 ≤ quota → (sends : ℕ → Bool) × (allowed quota row sends ≡ true)
-some-set quota row h = (longest row, may-be-sent quota row (longest row) (some-may quota row h))
-
--- what may be sent does not look beyond the row
-many-same : (n : ℕ) (f g : ℕ → Bool) → ((i : ℕ) → i < n → f i ≡ g i) → P.howMany n f ≡ P.howMany n g
-many-same zero f g h = refl
-many-same (suc n) f g h = rw (h 0 (omega arith), many-same n (λ i. f (suc i)) (λ i. g (suc i)) (λ i l. h (suc i) (omega arith)))
-
-pub may-by : (quota : ℕ) (row : List Drive) (f g : ℕ → Bool) → ((i : ℕ) → i < length row → f i ≡ g i)
-    → P.MaySend quota row f → P.MaySend quota row g
-may-by quota row f g h m =
-    record {
-      due = λ i l e. m .due i l (h i l ∙ e);
-      few = rw (← (many-same (length row) f g h)) (m .few);
-      first = λ i r. sym (h i (r .there)) ∙ m .first i r;
-    }
+  -- W-204: the one that waited longest is one of them
+  pub longest-goes : 1 ≤ quota → (i : ℕ) → P.Longest row i → sends quota row i ≡ true
+  longest-goes one i r =
+      cases (sends quota row i) (λ e. e)
+      (λ e.
+      let d = same-due-now _ .1 (r .due) in
+      let full = held-full quota row i d e in
+      let none =
+      none-counted (sends quota row) n
+      (λ j l.
+      cases (sends quota row j)
+      (λ f.
+      let b = sent-first quota row i j (r .there) d e f in
+      let isDue = same-due-now _ .0 (sent-due quota row j f) in
+      let most = r .longest j l isDue in
+      let same : waitAt row i ≡ waitAt row j = omega (arith, most, b .0) in
+      let less = b .1 same in
+      let lower = r .lower j l isDue (sym same) in
+      absurd (omega arith))
+      (λ f. f)) in
+      absurd (omega arith))

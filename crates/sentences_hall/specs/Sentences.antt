@@ -1,6 +1,7 @@
--- Halls. Each sentence of document 02's W-201, W-203, W-204, W-205 and, of a drive in a hall, W-207 and W-208, as they stand together, that
--- a definition of the product states is here a theorem for every input: on one side the definition that the contracts name, on the other
--- the sentence as `Paper` says it a second time. A drive's step, its advance and its status have their page in the crate sentences.
+-- Halls. Each sentence of document 02's W-201, W-203, W-204, W-205, W-210 and, of a drive in a hall, W-207 and W-208, as they stand
+-- together, that a definition of the product states is here a theorem for every input: on one side the definition that the contracts name,
+-- on the other the sentence as `Paper` says it a second time. A drive's step, its advance and its status have their page in the crate
+-- sentences.
 --
 -- How to read it: crates/sentences/specs/Sentences.antt.
 --   `P.` document 02 in its second form (Paper.antt); `P1.` document 01 in its second form (crates/sentences/specs/Paper.antt); `S.`
@@ -12,7 +13,7 @@ use mathlib.Core.Path.{_≡_, refl}
 use mathlib.Core.Logic.{_↔_}
 use mathlib.Core.Bool.{Bool, true, false, not, _&&_, _||_}
 use mathlib.Core.List.{List, [], _∷_, _++_, map, reverse}
-use Prim.Native.Nat.{ℕ, suc, _+_, _-_, _*_, _≤_, _<_}
+use Prim.Native.Nat.{ℕ, suc, _+_, _-_, _*_, _/_, _≤_, _<_}
 use lib.ListN.{length, getD, take, drop}
 use Rattle.numbers.specs.Every.{Every}
 use Rattle.event.specs.declared.Event.{Event}
@@ -24,11 +25,13 @@ use Rattle.damper.specs.Tick.{advance, statusOf}
 use Rattle.damper.specs.Step.{refusalOf, stepOf}
 use Rattle.damper.specs.Carry.{answersIn}
 use Rattle.history.specs.Claim.{Moment, Trace}
-use Rattle.choice.specs.Sent.{sentBy}
-use Rattle.hall.specs.Hall.{badRow, badNumber, isTick, namedIn, namesTwice, Call, give, tick, callRefusal, bytes, hallTick, bytesIn}
-use Rattle.hall.specs.Hall.{turn, turnsOf, turned, rowAfter, answersAfter, hallAfter, share}
+use Rattle.choice.specs.Sent.{reportAt}
+use Rattle.hall.specs.Hall.{badRow, badNumber, isTick, namedIn, namesTwice, Call, give, tick, callRefusal}
+use Rattle.hall.specs.Quota.{dueNow, hallTicked}
+use Rattle.hall.specs.Turns.{bytes, hallTick, hallStep, turn, bytesIn, turnsOf, turned, rowAfter, answersAfter, hallAfter, share, eventsFor}
 use Rattle.hall.specs.Quota as Quota
-use Rattle.hall.specs.Quota.{dueNow, hallTicked, hallStep, allowed, allowedCall, allowedCalls}
+use Rattle.shares.specs.Once.{share-events}
+use Rattle.shares.specs.Bound.{ticksGiven, dueAtEach, sentAtOne, restarted, quotasIn}
 use Rattle.shares.specs.Theorem.{shareTrace}
 use Rattle.shift.specs.Shift.{driveLine, pageRefusal, pageAfter}
 use Rattle.shift.specs.Laws.{line-length, page-length}
@@ -42,7 +45,6 @@ use Rattle.sentences.specs.Forms.{same-formed}
 use Rattle.sentences_list.specs.Paper as L
 use Rattle.sentences_claim.specs.Paper as S
 use Rattle.sentences_hall.specs.Paper as P
-use Rattle.sentences_hall.specs.Contract.{Result}
 use Rattle.sentences_hall.specs.Refused as Refused
 use Rattle.sentences_hall.specs.Senders as Senders
 use Rattle.sentences_hall.specs.Turns as Turns
@@ -80,7 +82,7 @@ names i list = Turns.same-named i list
 
 -- "nothing is touched"
 pub refused : (row : List Drive) (c : Call) (answers : List ℕ) (k : ℕ) → P.answerTo (length row) c ≡ suc k
-    → (rowAfter hallStep row (turnsOf (length row) c) ≡ row) × (answersAfter hallStep row c answers ≡ answers)
+    → (rowAfter hallStep row (turnsOf row c) ≡ row) × (answersAfter hallStep row c answers ≡ answers)
 refused row c answers k e = (Turns.refused-row row c k e, Turns.refused-answers row c k e answers)
 
 -- W-205: "its answers for lists without repeats are unaffected": the number is W-201's, 14 to 16; where it is 0 the event is given to the
@@ -88,7 +90,7 @@ refused row c answers k e = (Turns.refused-row row c k e, Turns.refused-answers 
 pub unaffected : (row : List Drive) (list s answers : List ℕ) → (P.NamedTwice list → ⊥)
     → (let c = give list s (length answers) in
     let number = firstThatFits (P.upTo16 (length row) list s (length answers)) in
-    let after = rowAfter hallStep row (turnsOf (length row) c) in
+    let after = rowAfter hallStep row (turnsOf row c) in
     let filled = answersAfter hallStep row c answers in
     let inOrder = map (turn (bytes s)) list in
     (callRefusal (length row) c ≡ number)
@@ -103,7 +105,7 @@ unaffected row list s answers h = (
 -- ── "One call gives the bytes of an event other than a tick to a list of drives, in list order" ──
 module _ (row : List Drive) (list s answers : List ℕ) where
   abbrev given : List Drive
-  given = rowAfter hallStep row (turnsOf (length row) (give list s (length answers)))
+  given = rowAfter hallStep row (turnsOf row (give list s (length answers)))
 
   abbrev answered : List ℕ
   answered = answersAfter hallStep row (give list s (length answers)) answers
@@ -138,23 +140,29 @@ wait-of-event d s = Turns.wait-of-event d s
 pub wait-of-fresh : freshDrive .wait ≡ 0
 wait-of-fresh = refl
 
--- ── "One call ticks them all and fills one number per drive in such a row", the drives given that it sends ──
-module _ (row : List Drive) (quota : ℕ) (sends : ℕ → Bool) (numbers : List ℕ)
-    (ok : P.answerTo (length row) (tick quota sends (length numbers)) ≡ 0) where
+-- ── "One call ticks them all and fills one number per drive in such a row" ──
+module _ (row : List Drive) (quota : ℕ) (numbers : List ℕ) (ok : P.answerTo (length row) (tick quota (length numbers)) ≡ 0) where
   abbrev ticked : List Drive
-  ticked = rowAfter hallStep row (turnsOf (length row) (tick quota sends (length numbers)))
+  ticked = rowAfter hallStep row (turnsOf row (tick quota (length numbers)))
 
   abbrev filled : List ℕ
-  filled = answersAfter hallStep row (tick quota sends (length numbers)) numbers
+  filled = answersAfter hallStep row (tick quota (length numbers)) numbers
 
   -- both rows keep their length, and "Further places of the row keep their content."
   pub tick-lengths : (length ticked ≡ length row) × (length filled ≡ length numbers)
-  tick-lengths = (Turns.ticked-length row quota sends numbers, Turns.filled-length row quota sends numbers ok)
+  tick-lengths = (Turns.ticked-length row quota numbers, Turns.filled-length row quota numbers ok)
 
   pub further-numbers : (i : ℕ) → length row ≤ i → getD filled i 0 ≡ getD numbers i 0
-  further-numbers i h = Turns.further-number row quota sends numbers ok i h
+  further-numbers i h = Turns.further-number row quota numbers ok i h
 
-  module _ (i : ℕ) (h : i < length row) where
+  -- W-210, of the numbers that the host reads: "exactly the smaller of the quota and the number due" are reports, where `isDue` tells who is
+  -- due
+  pub reports-sent : (isDue : ℕ → Bool) → ((i : ℕ) → i < length row → (isDue i ≡ true) ↔ P.Due (P.drive row i))
+      → (let many = P.howMany (length row) isDue in P.howMany (length row) (reportAt filled) ≡ choose (many exceeds quota) quota many)
+  reports-sent isDue tells = Turns.reports-sent row quota numbers ok isDue tells
+
+  -- of those that it sends, and of the others
+  module _ (goes : ℕ → Bool) (whom : P.Sends quota row goes) (i : ℕ) (h : i < length row) where
     abbrev d : Drive
     d = P.drive row i
 
@@ -164,26 +172,26 @@ module _ (row : List Drive) (quota : ℕ) (sends : ℕ → Bool) (numbers : List
 
     -- "1 for a drive not well formed, which stays unticked"; "a drive not well formed keeps it"
     pub unticked : (P1.WellFormed d → ⊥) → (P.drive ticked i ≡ d) × (getD filled i 0 ≡ 1)
-    unticked f = Turns.unformed-ticked row quota sends numbers ok i h f
+    unticked f = Turns.unformed-ticked row quota numbers ok goes whom i h f
 
     -- "65,536 + 256 × position + status for a report"; "sent .. it is 0"
-    pub sent : P1.WellFormed d → sends i ≡ true
+    pub sent : goes i ≡ true
         → (P.drive ticked i
         ≡ n with (F.since ≔ 0 ∷ F.reported ≔ 1 ∷ F.lastPosition ≔ n .position ∷ F.lastStatus ≔ statusOf n ∷ F.wait ≔ 0 ∷ []))
         × (getD filled i 0 ≡ 65536 + 256 * n .position + statusOf n)
-    sent f s = Turns.sent-ticked row quota sends numbers ok i h f s
+    sent s = Turns.sent-ticked row quota numbers ok goes whom i h (whom .due i h s .formed) s
 
     -- "0 silent"; "how many hall ticks in a row it was due and not sent, stopping at 65,535"
-    pub held : P.Due d → sends i ≡ false → (P.drive ticked i ≡ n with (F.wait ≔ P1.oneMore (d .wait) ∷ [])) × (getD filled i 0 ≡ 0)
-    held f s = Turns.held-ticked row quota sends numbers ok i h f s
+    pub held : P.Due d → goes i ≡ false → (P.drive ticked i ≡ n with (F.wait ≔ P1.oneMore (d .wait) ∷ [])) × (getD filled i 0 ≡ 0)
+    held f s = Turns.held-ticked row quota numbers ok goes whom i h f s
 
     -- "not due it is 0"
-    pub not-due : P1.WellFormed d → (P.Due d → ⊥) → sends i ≡ false → (P.drive ticked i ≡ n with (F.wait ≔ 0 ∷ [])) × (getD filled i 0 ≡ 0)
-    not-due f u s = Turns.undue-ticked row quota sends numbers ok i h f u s
+    pub not-due : P1.WellFormed d → (P.Due d → ⊥) → (P.drive ticked i ≡ n with (F.wait ≔ 0 ∷ [])) × (getD filled i 0 ≡ 0)
+    not-due f u = Turns.undue-ticked row quota numbers ok goes whom i h f u
 
     -- who is sent is read off the numbers: those of 65,536 and above
-    pub sent-told : P.MaySend quota row sends → sentBy filled i ≡ sends i
-    sent-told m = Turns.told-sent row quota sends numbers ok i h (m .due i h)
+    pub sent-told : reportAt filled i ≡ goes i
+    sent-told = Turns.told-sent row quota numbers ok goes whom i h
 
 -- what the drive itself answers to a hall tick: the tick's form, with a status where it is sent
 pub sent-answer : (d : Drive) → P1.WellFormed d
@@ -198,10 +206,10 @@ pub unformed-answer : (d : Drive) (sent : Bool) → (P1.WellFormed d → ⊥) �
 unformed-answer d sent f = Promised.unformed-answer d sent f
 
 -- a report's number
-pub report-number : (numbers : List ℕ) (i : ℕ) → (sentBy numbers i ≡ true) ↔ (65536 ≤ getD numbers i 0)
+pub report-number : (numbers : List ℕ) (i : ℕ) → (reportAt numbers i ≡ true) ↔ (65536 ≤ getD numbers i 0)
 report-number numbers i = Turns.report-number numbers i
 
--- ── W-204: who is sent ──
+-- ── W-204 and W-210: who is sent ──
 
 -- "A well-formed drive is due when the fourth step of a tick would report."
 pub due : (d : Drive) → (dueNow d ≡ true) ↔ P.Due d
@@ -210,93 +218,51 @@ due d = Senders.same-due-now d
 pub due-reports : (d : Drive) → (dueNow d ≡ true) ↔ P1.IsReport (stepOf d (0x5a ∷ 0xc3 ∷ 1 ∷ 0 ∷ 0 ∷ 0 ∷ []) .answer)
 due-reports d = Senders.due-reports d
 
--- "the one that waited longest .., lower number first among equals"
-pub longest : (row : List Drive) (i : ℕ) → i < length row → (Quota.longest row i ≡ true) ↔ P.Longest row (length row) i
-longest row i h = Senders.same-longest row i h
+-- "A hall tick must send exactly the smaller of the quota and the number due, longest wait first, lower number among equals.": the drives
+-- that the definition sends are those of the sentence, and no others
+pub sends : (quota : ℕ) (row : List Drive) (goes : ℕ → Bool)
+    → ((i : ℕ) → i < length row → Quota.sends quota row i ≡ goes i) ↔ P.Sends quota row goes
+sends quota row goes = Senders.same-sends quota row goes
 
--- "sends at most that many reports"; "If any is due, the one that waited longest goes, lower number first among equals; which other due
--- drives go is free."
-pub may-send : (quota : ℕ) (row : List Drive) (sends : ℕ → Bool) → (allowed quota row sends ≡ true) ↔ P.MaySend quota row sends
-may-send quota row sends = Senders.same-allowed quota row sends
-
--- of a hall tick, where it is not refused itself
-pub tick-may-send : (row : List Drive) (quota : ℕ) (sends : ℕ → Bool) (room : ℕ)
-    → (allowedCall row (tick quota sends room) ≡ true) ↔ (P.answerTo (length row) (tick quota sends room) ≡ 0 → P.MaySend quota row sends)
-tick-may-send row quota sends room = Senders.same-allowed-call quota row sends room
-
--- an event call is always allowed: who is sent is a question of hall ticks alone
-pub event-allowed : (row : List Drive) (list s : List ℕ) (room : ℕ) → allowedCall row (give list s room) ≡ true
-event-allowed row list s room = refl
-
--- and of a list of calls, each on the row that the one before left
-pub none-may-send : (row : List Drive) → allowedCalls row [] ≡ true
-none-may-send row = Senders.no-call row
-
-pub calls-may-send : (row : List Drive) (c : Call) (cs : List Call)
-    → (allowedCalls row (c ∷ cs) ≡ true)
-    ↔ ((allowedCall row c ≡ true) × (allowedCalls (rowAfter hallStep row (turnsOf (length row) c)) cs ≡ true))
-calls-may-send row c cs = Senders.one-more-call row c cs
-
--- the same at once: each hall tick that is carried out sends whom it may, of the row that the calls before it left
-pub each-may-send : (row : List Drive) (cs : List Call) → (allowedCalls row cs ≡ true) ↔ P.EachMaySend row cs
-each-may-send row cs = Promised.same-may-send row cs
-
--- "If any is due", there is one that waited longest, and one only
-pub some-longest : (row : List Drive) (k : ℕ) → k < length row → P.Due (P.drive row k) → (i : ℕ) × P.Longest row (length row) i
-some-longest row k h f = Senders.some-longest row k h f
-
-pub one-longest : (row : List Drive) (i j : ℕ) → P.Longest row (length row) i → P.Longest row (length row) j → i ≡ j
-one-longest row i j r t = Senders.one-longest row (length row) i j r t
-
--- some set may be sent, of every row and a quota of at least 1
-pub some-set : (quota : ℕ) (row : List Drive) → 1 ≤ quota → (sends : ℕ → Bool) × (allowed quota row sends ≡ true)
-some-set quota row h = Senders.some-set quota row h
-
--- every set that may be sent is that of a result which the contract admits, and the set decides the result
-pub every-set : (row : List Drive) (quota : ℕ) (sends : ℕ → Bool) (numbers : List ℕ)
-    → P.answerTo (length row) (tick quota sends (length numbers)) ≡ 0
-    → P.MaySend quota row sends
-    → (let c = tick quota sends (length numbers) in
-    Result row quota numbers 0 (rowAfter hallStep row (turnsOf (length row) c)) (answersAfter hallStep row c numbers))
-every-set row quota sends numbers ok m = Turns.every-set row quota sends numbers ok m
-
-pub set-decides : (row : List Drive) (quota : ℕ) (numbers : List ℕ) (a b : ℕ) (after other : List Drive) (filled more : List ℕ)
-    → Result row quota numbers a after filled → Result row quota numbers b other more
-    → ((i : ℕ) → i < length row → sentBy filled i ≡ sentBy more i)
-    → (a ≡ b) × (after ≡ other) × (filled ≡ more)
-set-decides row quota numbers a b after other filled more r t e = Turns.determined row quota numbers a b after other filled more r t e
+-- W-204: "If any is due, the one that waited longest goes, lower number first among equals"
+pub longest-goes : (quota : ℕ) (row : List Drive) → 1 ≤ quota → (i : ℕ) → P.Longest row i → Quota.sends quota row i ≡ true
+longest-goes quota row one i r = Senders.longest-goes quota row one i r
 
 -- ── "its own share of the hall's calls" ──
 
 -- each call is on the row that the one before left
-pub no-calls-after : (row : List Drive) → hallAfter hallStep row [] ≡ row
+pub no-calls-after : (row : List Drive) → hallAfter row [] ≡ row
 no-calls-after row = Shared.none-after row
 
 pub calls-after : (row : List Drive) (c : Call) (cs : List Call)
-    → hallAfter hallStep row (c ∷ cs) ≡ hallAfter hallStep (rowAfter hallStep row (turnsOf (length row) c)) cs
+    → hallAfter row (c ∷ cs) ≡ hallAfter (rowAfter hallStep row (turnsOf row c)) cs
 calls-after row c cs = Shared.more-after row c cs
 
-pub share-of-none : (n i : ℕ) → share n i [] ≡ []
-share-of-none n i = Shared.no-calls n i
+pub share-of-none : (row : List Drive) (i : ℕ) → share row i [] ≡ []
+share-of-none row i = Shared.no-calls row i
 
-module _ (n i : ℕ) (cs : List Call) where
+module _ (row : List Drive) (i : ℕ) (cs : List Call) where
+  -- the row after one call
+  abbrev after : Call → List Drive
+  after c = rowAfter hallStep row (turnsOf row c)
+
   -- "a hall call refused itself belongs to no share"
-  pub share-refused : (c : Call) (k : ℕ) → P.answerTo n c ≡ suc k → share n i (c ∷ cs) ≡ share n i cs
-  share-refused c k e = Shared.refused-share n i cs c k e
+  pub share-refused : (c : Call) (k : ℕ) → P.answerTo (length row) c ≡ suc k → share row i (c ∷ cs) ≡ share row i cs
+  share-refused c k e = Shared.refused-share row i cs c k e
 
   -- the bytes, where it is listed
-  pub share-named : (list s : List ℕ) (room : ℕ) → P.answerTo n (give list s room) ≡ 0 → P.Listed i list
-      → share n i (give list s room ∷ cs) ≡ bytes s ∷ share n i cs
-  share-named list s room ok l = Shared.named-share n i cs list s room ok l
+  pub share-named : (list s : List ℕ) (room : ℕ) → P.answerTo (length row) (give list s room) ≡ 0 → P.Listed i list
+      → share row i (give list s room ∷ cs) ≡ bytes s ∷ share (after (give list s room)) i cs
+  share-named list s room ok l = Shared.named-share row i cs list s room ok l
 
-  pub share-not-named : (list s : List ℕ) (room : ℕ) → P.answerTo n (give list s room) ≡ 0 → (P.Listed i list → ⊥)
-      → share n i (give list s room ∷ cs) ≡ share n i cs
-  share-not-named list s room ok l = Shared.unnamed-share n i cs list s room ok l
+  pub share-not-named : (list s : List ℕ) (room : ℕ) → P.answerTo (length row) (give list s room) ≡ 0 → (P.Listed i list → ⊥)
+      → share row i (give list s room ∷ cs) ≡ share (after (give list s room)) i cs
+  share-not-named list s room ok l = Shared.unnamed-share row i cs list s room ok l
 
-  -- a hall tick, sent or not
-  pub share-tick : (quota : ℕ) (sends : ℕ → Bool) (room : ℕ) → P.answerTo n (tick quota sends room) ≡ 0 → i < n
-      → share n i (tick quota sends room ∷ cs) ≡ hallTick (sends i) ∷ share n i cs
-  share-tick quota sends room ok h = Shared.tick-share n i cs quota sends room ok h
+  -- a hall tick, sent or not by the row before it (see `sends`)
+  pub share-tick : (quota room : ℕ) → P.answerTo (length row) (tick quota room) ≡ 0 → i < length row
+      → share row i (tick quota room ∷ cs) ≡ hallTick (Quota.sends quota row i) ∷ share (after (tick quota room)) i cs
+  share-tick quota room ok h = Shared.tick-share row i cs quota room ok h
 
 -- as an event record a hall tick is a tick
 pub bytes-of-event : (s : List ℕ) → bytesIn (bytes s) ≡ s
@@ -304,6 +270,29 @@ bytes-of-event s = refl
 
 pub bytes-of-tick : (sent : Bool) → bytesIn (hallTick sent) ≡ 0x5a ∷ 0xc3 ∷ 1 ∷ 0 ∷ 0 ∷ 0 ∷ []
 bytes-of-tick sent = refl
+
+-- its event records are decided by the calls and the number of drives alone
+pub records-of-share : (row : List Drive) (i : ℕ) → i < length row → (cs : List Call) → map bytesIn (share row i cs) ≡ eventsFor (length row) i cs
+records-of-share row i h cs = share-events row i h cs
+
+pub records-of-none : (n i : ℕ) → eventsFor n i [] ≡ []
+records-of-none n i = Shared.no-records n i
+
+module _ (n i : ℕ) (cs : List Call) where
+  pub records-refused : (c : Call) (k : ℕ) → P.answerTo n c ≡ suc k → eventsFor n i (c ∷ cs) ≡ eventsFor n i cs
+  records-refused c k e = Shared.refused-records n i cs c k e
+
+  pub records-named : (list s : List ℕ) (room : ℕ) → P.answerTo n (give list s room) ≡ 0 → P.Listed i list
+      → eventsFor n i (give list s room ∷ cs) ≡ s ∷ eventsFor n i cs
+  records-named list s room ok l = Shared.named-records n i cs list s room ok l
+
+  pub records-not-named : (list s : List ℕ) (room : ℕ) → P.answerTo n (give list s room) ≡ 0 → (P.Listed i list → ⊥)
+      → eventsFor n i (give list s room ∷ cs) ≡ eventsFor n i cs
+  records-not-named list s room ok l = Shared.unnamed-records n i cs list s room ok l
+
+  pub records-tick : (quota room : ℕ) → P.answerTo n (tick quota room) ≡ 0
+      → eventsFor n i (tick quota room ∷ cs) ≡ (0x5a ∷ 0xc3 ∷ 1 ∷ 0 ∷ 0 ∷ 0 ∷ []) ∷ eventsFor n i cs
+  records-tick quota room ok = Shared.tick-records n i cs quota room ok
 
 -- ── What is promised of it ──
 
@@ -314,56 +303,90 @@ share-trace row i h cs t = Promised.same-trace row i h cs t
 
 -- "What was promised of one drive's list of events now holds, for each drive that was fresh at first, of its own share of the hall's
 -- calls": every sentence of demand 3 at each place of the trace, and with it W-204's "Spacing stays"; of waiting, what W-204 leaves of it
-pub promised : (row : List Drive) (cs : List Call) (i : ℕ) → i < length row → P.drive row i ≡ freshDrive → P.EachMaySend row cs
+pub promised : (row : List Drive) (cs : List Call) (i : ℕ) → i < length row → P.drive row i ≡ freshDrive
     → (t : Trace) → P.ShareTrace row i cs t → S.Everywhere S.HallHolds t
-promised row cs i h fresh a t g = Promised.promised row cs i h fresh a t g
+promised row cs i h fresh t g = Promised.promised row cs i h fresh t g
 
--- "which replaces the waiting limb for halls": in a row of records of its share in which each tick breaks that limb and none is a restart, a
--- drive has fewer ticks than the hall has drives
-pub waiting-bound : (row : List Drive) (before after : List Call) (i : ℕ) → i < length row → P.drive row i ≡ freshDrive
-    → P.EachMaySend row (before ++ after)
-    → (old new : Trace) → P.ShareTrace row i before old → P.ShareTrace row i (before ++ after) (new ++ old) → P.BrokenThroughout old new
-    → S.clock (new ++ old) < S.clock old + length row
-waiting-bound row before after i h fresh a old new g k f = Promised.waiting-bound row before after i h fresh a old new g k f
+-- "which replaces the waiting limb for halls": in a row of records of its share in which each tick breaks that limb and none is a restart,
+-- the quotas of the hall ticks are together less than the number of drives, and so are the ticks
+module _ (row : List Drive) (before after : List Call) (i : ℕ) (h : i < length row) (fresh : P.drive row i ≡ freshDrive) (old new : Trace)
+    (g : P.ShareTrace row i before old) (k : P.ShareTrace row i (before ++ after) (new ++ old)) (f : P.BrokenThroughout old new) where
+  pub quotas-bound : P.quotas (length row) after < length row
+  quotas-bound = Promised.quotas-bound row before after i h fresh old new g k f
+
+  pub waiting-bound : S.clock (new ++ old) < S.clock old + length row
+  waiting-bound = Promised.waiting-bound row before after i h fresh old new g k f
 
 -- what a share gives a drive has the drives that its ticks find, and leaves the drive of the hall after the calls
 pub ticks-found : (row : List Drive) (cs : List Call) (i : ℕ) → i < length row → (let d = P.drive row i in
-    (found : List Drive) × S.TicksFind hallStep P.TickGiven d (share (length row) i cs) found (P.drive (hallAfter hallStep row cs) i))
+    (found : List Drive) × S.TicksFind hallStep P.TickGiven d (share row i cs) found (P.drive (hallAfter row cs) i))
 ticks-found row cs i h = Promised.some-found row cs i h
 
 -- W-207, of a drive in a hall: "If one commander rules with one target for K ticks in a row, Rate unwritten, the drive stands at that
 -- target after the last of them and stays while that commander and target rule", of its own share of the calls `cs`, and of `cs′` after
 -- them; `found` are the drives that its ticks find, and n ticks are K or more just where 255 ≤ n × Rate
 pub settles : (row : List Drive) (cs : List Call) (i : ℕ) → i < length row → P1.WellFormed (P.drive row i) → P.drive row i .position < 256
-    → (r t : ℕ) (found : List Drive) → (let d = P.drive row i in let n = length row in let row′ = hallAfter hallStep row cs in
-    S.TicksFind hallStep P.TickGiven d (share n i cs) found (P.drive row′ i) → S.Unwritten hallStep P.RateGiven d (share n i cs)
+    → (r t : ℕ) (found : List Drive) → (let d = P.drive row i in let row′ = hallAfter row cs in
+    S.TicksFind hallStep P.TickGiven d (share row i cs) found (P.drive row′ i) → S.Unwritten hallStep P.RateGiven d (share row i cs)
     → Every (S.Rules r t) found → 255 ≤ length found * P1.Rate (d .params)
     → (P.drive row′ i .position ≡ t)
-    × ((cs′ : List Call) (found′ : List Drive) → (let row″ = hallAfter hallStep row′ cs′ in
-    S.TicksFind hallStep P.TickGiven (P.drive row′ i) (share n i cs′) found′ (P.drive row″ i) → Every (S.Rules r t) found′
+    × ((cs′ : List Call) (found′ : List Drive) → (let row″ = hallAfter row′ cs′ in
+    S.TicksFind hallStep P.TickGiven (P.drive row′ i) (share row′ i cs′) found′ (P.drive row″ i) → Every (S.Rules r t) found′
     → P.drive row″ i .position ≡ t)))
 settles row cs i h w b r t found g u xs n = Promised.settles row cs i h (same-formed (P.drive row i) .1 w) b r t found g u xs n
 
 -- W-208: "The count equals the sum of all its moves in the list of events, up to that cap": of the events of its own share, `h` those that
 -- are accepted and `n` the sum of their moves
-pub share-travel : (row : List Drive) (cs : List Call) (i : ℕ) → i < length row → P.drive row i ≡ freshDrive → P.EachMaySend row cs
-    → (h : List Event) (n : ℕ) → L.History (reverse (map bytesIn (share (length row) i cs))) h → L.Travel h n
-    → P.drive (hallAfter hallStep row cs) i .travel ≡ choose (n exceeds 4294967295) 4294967295 n
-share-travel row cs i b fresh a h n w x = Promised.travelled row cs i b fresh a h n w x
+pub share-travel : (row : List Drive) (cs : List Call) (i : ℕ) → i < length row → P.drive row i ≡ freshDrive
+    → (h : List Event) (n : ℕ) → L.History (reverse (eventsFor (length row) i cs)) h → L.Travel h n
+    → P.drive (hallAfter row cs) i .travel ≡ choose (n exceeds 4294967295) 4294967295 n
+share-travel row cs i b fresh h n w x = Promised.travelled row cs i b fresh h n w x
 
--- W-204: "A drive due at each of as many hall ticks in a row as the row has drives, and not restarted between them, is sent at one of
--- them": of every row and list of calls on it, whatever the waits are, and refused calls and events between the ticks
-pub sent-in-time : (row : List Drive) (cs : List Call) (i : ℕ) → i < length row → P.EachMaySend row cs
-    → length row ≤ P.hallTicks (length row) cs → P.DueAtEach row i cs → (P.Restarted row i cs → ⊥) → P.SentAtOne (length row) i cs
-sent-in-time row cs i h a l f r = Promised.sent-in-time row cs i h a l f r
+-- "due at each", "restarted" and "sent at one of them", as the definitions count them over a share
+module _ (row : List Drive) (i : ℕ) (h : i < length row) (cs : List Call) where
+  pub due-at-each : (dueAtEach (P.drive row i) (share row i cs) ≡ true) ↔ P.DueAtEach row i cs
+  due-at-each = Promised.same-due-each cs row i h
+
+  pub restarted-by : (restarted (P.drive row i) (share row i cs) ≡ true) ↔ P.Restarted row i cs
+  restarted-by = Promised.same-restarted cs row i h
+
+  pub sent-at-one : (sentAtOne (share row i cs) ≡ true) ↔ P.SentAtOne row i cs
+  sent-at-one = Promised.same-sent cs row i h
+
+  -- and the hall ticks and their quotas
+  pub hall-ticks : ticksGiven (share row i cs) ≡ P.hallTicks (length row) cs
+  hall-ticks = Promised.ticks-counted cs row i h
+
+pub hall-quotas : (n : ℕ) (cs : List Call) → quotasIn n cs ≡ P.quotas n cs
+hall-quotas n cs = Promised.same-quotas n cs
+
+-- "divided by the quota, rounded up"
+pub rounded-up : (n q m : ℕ) → 1 ≤ q → (m ≡ (n + q - 1) / q) ↔ P.RoundedUp n q m
+rounded-up n q m p = Promised.same-rounded n q p m
+
+-- Of every row and list of calls on it, whatever the waits are, and refused calls and events between the ticks: a drive due at each hall
+-- tick and not restarted between them is sent at one of them
+module _ (row : List Drive) (cs : List Call) (i : ℕ) (h : i < length row) (f : P.DueAtEach row i cs) (r : P.Restarted row i cs → ⊥) where
+  -- if their quotas add up to the number of drives or more
+  pub sent-in-quotas : length row ≤ P.quotas (length row) cs → P.SentAtOne row i cs
+  sent-in-quotas l = Promised.sent-in-quotas row cs i h f r l
+
+  -- W-210: "With one quota throughout, a drive that stays due and isn't restarted is then sent within as many hall ticks as the number of
+  -- drives divided by the quota, rounded up."
+  pub sent-within : (q m : ℕ) → P.OneQuota q row cs → P.RoundedUp (length row) q m → m ≤ P.hallTicks (length row) cs → P.SentAtOne row i cs
+  sent-within q m one up l = Promised.sent-within row cs i h f r q m one up l
+
+  -- W-204: "A drive due at each of as many hall ticks in a row as the row has drives, and not restarted between them, is sent at one of
+  -- them"
+  pub sent-in-time : length row ≤ P.hallTicks (length row) cs → P.SentAtOne row i cs
+  sent-in-time l = Promised.sent-in-time row cs i h f r l
 
 -- "a last tick that breaks that limb always finds its drive due": the last call is a hall tick, `m` its moment and `t` the trace before it
-pub finds-due : (row : List Drive) (cs : List Call) (i quota : ℕ) (sends : ℕ → Bool) (room : ℕ) → i < length row
-    → P.drive row i ≡ freshDrive → P.EachMaySend row (cs ++ (tick quota sends room ∷ []))
-    → P.answerTo (length row) (tick quota sends room) ≡ 0
-    → (m : Moment) (t : Trace) → P.ShareTrace row i cs t → P.ShareTrace row i (cs ++ (tick quota sends room ∷ [])) (m ∷ t)
-    → (S.Waiting m t → ⊥) → P.Due (P.drive (hallAfter hallStep row cs) i)
-finds-due row cs i quota sends room h fresh a ok m t g k b = Promised.finds-due row cs i quota sends room h fresh a ok m t g k b
+pub finds-due : (row : List Drive) (cs : List Call) (i quota room : ℕ) → i < length row → P.drive row i ≡ freshDrive
+    → P.answerTo (length row) (tick quota room) ≡ 0
+    → (m : Moment) (t : Trace) → P.ShareTrace row i cs t → P.ShareTrace row i (cs ++ (tick quota room ∷ [])) (m ∷ t)
+    → (S.Waiting m t → ⊥) → P.Due (P.drive (hallAfter row cs) i)
+finds-due row cs i quota room h fresh ok m t g k b = Promised.finds-due row cs i quota room h fresh ok m t g k b
 
 -- ── W-203: the shift page ──
 

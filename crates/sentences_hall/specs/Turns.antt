@@ -9,11 +9,11 @@ use native.Mathlib.Nat.{not-suc-le-zero, le-of-suc-le-suc}
 use lib.Dec.{ltb, eqb}
 use lib.ListN.{length, getD, drop, length-map, List·getD-append, List·getD-eq-default}
 use lib.Seq.{getD-append-add, getD-drop}
-use borrow.Author.Tests.{eqb-true, eqb-false, eq-eqb, ne-eqb, ltb-true, ltb-false, lt-ltb, le-ltb, leb-true, le-leb}
+use borrow.Author.Tests.{eqb-true, eqb-false, eq-eqb, ltb-true, ltb-false, lt-ltb, le-ltb, leb-true, le-leb}
 use Rattle.numbers.specs.Numbers.{pick, next}
 use Rattle.numbers.specs.Laws.{cases}
 use Rattle.numbers.specs.Places.{tabulate}
-use Rattle.numbers.specs.PlaceLaws.{tab-length, tab-at, tab-same}
+use Rattle.numbers.specs.PlaceLaws.{count-same, tab-length, tab-at}
 use Rattle.answer.specs.Answer.{numberOf}
 use Rattle.event.specs.Event.{eventIn}
 use Rattle.event.specs.Laws.{admitted}
@@ -23,41 +23,38 @@ use Rattle.damper.specs.WellFormed.{wellFormed}
 use Rattle.damper.specs.Tick.{advance, statusOf, due}
 use Rattle.damper.specs.Step.{tickWith, refusalOf, stepOf}
 use Rattle.damper.specs.Laws.{refusal-none}
-use Rattle.damper.specs.Carry.{answersIn}
 use Rattle.invariant.specs.Effects.{step-refused, step-accepted, number-after, wait-after}
-use Rattle.choice.specs.Sent.{sentBy}
-use Rattle.hall.specs.Hall.{Call, give, tick, namedIn, tickRefusal, callRefusal, hallTick, Turn, turn, carriedOut, turnsOf}
-use Rattle.hall.specs.Hall.{turned, rowAfter, tickNumber, answersAfter}
-use Rattle.hall.specs.Quota.{hallTicked, hallStep}
+use Rattle.choice.specs.Sent.{reportAt}
+use Rattle.hall.specs.Hall.{Call, give, tick, namedIn, callRefusal, carriedOut}
+use Rattle.hall.specs.Quota.{hallTicked, sends}
+use Rattle.hall.specs.Turns.{hallTick, turn, turnsOf, rowAfter, tickNumber, answersAfter, hallStep}
 use Rattle.hall.specs.Laws.{row-length, ticked-fits, give-turns, answers-end-length}
 use Rattle.hall.specs.ListLaws.{named-at, named-place}
 use Rattle.hall.specs.TickLaws.{tick-row, tick-numbers}
 use Rattle.hall.specs.EventLaws.{event-row, event-answers}
 use Rattle.hall.specs.NumberLaws.{formed-number, unformed-number}
-use Rattle.sentences.specs.Words.{choose}
+use Rattle.sentences.specs.Words.{_exceeds_, choose}
 use Rattle.sentences.specs.Fields as F
 use Rattle.sentences.specs.Fields.{_≔_, _with_}
 use Rattle.sentences.specs.Paper as P1
 use Rattle.sentences.specs.Rules.{same-due}
 use Rattle.sentences.specs.Forms.{same-formed, not-formed}
+use Rattle.shares.specs.Shares as Shares
 use Rattle.sentences_hall.specs.Paper as P
-use Rattle.sentences_hall.specs.Contract.{Result}
 use Rattle.sentences_hall.specs.Refused.{same-call}
-use Rattle.sentences_hall.specs.Senders.{same-allowed-call, may-by}
+use Rattle.sentences_hall.specs.Senders.{same-count, whom-it-sends, sends-only}
 
 -- ── A call that is refused itself ──
 module _ (row : List Drive) (c : Call) (k : ℕ) (e : P.answerTo (length row) c ≡ suc k) where
-  pub none-asked : turnsOf (length row) c ≡ []
-  unfolding turnsOf
-  none-asked = rw (same-call (length row) c ∙ e, ne-eqb (suc k) 0 (λ z. absurd (omega arith)))
+  pub not-carried : callRefusal (length row) c ≡ 0 → ⊥
+  not-carried z = let n = sym (same-call (length row) c ∙ e) ∙ z in absurd (omega arith)
 
-  pub refused-row : rowAfter hallStep row (turnsOf (length row) c) ≡ row
+  pub refused-row : rowAfter hallStep row (turnsOf row c) ≡ row
   unfolding rowAfter
-  refused-row = rw none-asked
+  refused-row = rw (Shares.refused-turns row c not-carried)
 
   pub refused-answers : (answers : List ℕ) → answersAfter hallStep row c answers ≡ answers
-  unfolding answersAfter turned answersIn
-  refused-answers answers = rw none-asked
+  refused-answers answers = Shares.refused-answers row c not-carried answers
 
 -- ── The event call ──
 
@@ -92,18 +89,18 @@ module _ (row : List Drive) (list s answers : List ℕ) where
   call = give list s (length answers)
 
   abbrev after : List Drive
-  after = rowAfter hallStep row (turnsOf (length row) call)
+  after = rowAfter hallStep row (turnsOf row call)
 
   abbrev answered : List ℕ
   answered = answersAfter hallStep row call answers
 
   pub event-length : length after ≡ length row
-  event-length = row-length hallStep row (turnsOf (length row) call)
+  event-length = row-length hallStep row (turnsOf row call)
 
   pub answers-length : length answered ≡ length answers
   answers-length =
       answers-end-length hallStep row call answers
-      (give-turns (length row) (length answers) s list (pick (eqb (callRefusal (length row) call) 0) (length list) 0) refl)
+      (give-turns row (length answers) s list (pick (eqb (callRefusal (length row) call) 0) (length list) 0) refl)
 
   module _ (ok : P.answerTo (length row) call ≡ 0) where
     carried : carriedOut (length row) call ≡ true
@@ -183,25 +180,28 @@ module _ (d : Drive) where
   unfolding hallTicked tickWith
   undue-drive w e = rw (w, e)
 
--- ── The hall tick ──
-module _ (row : List Drive) (quota : ℕ) (sends : ℕ → Bool) (numbers : List ℕ) where
+-- ── The hall tick, sending those that `goes` tells ──
+module _ (row : List Drive) (quota : ℕ) (numbers : List ℕ) where
   abbrev ticks : Call
-  ticks = tick quota sends (length numbers)
+  ticks = tick quota (length numbers)
 
   abbrev ticked : List Drive
-  ticked = rowAfter hallStep row (turnsOf (length row) ticks)
+  ticked = rowAfter hallStep row (turnsOf row ticks)
 
   abbrev filled : List ℕ
   filled = answersAfter hallStep row ticks numbers
 
   pub ticked-length : length ticked ≡ length row
-  ticked-length = row-length hallStep row (turnsOf (length row) ticks)
+  ticked-length = row-length hallStep row (turnsOf row ticks)
 
   module _ (ok : P.answerTo (length row) ticks ≡ 0) where
     taken : callRefusal (length row) ticks ≡ 0
     taken = same-call (length row) ticks ∙ ok
 
-    all-asked : turnsOf (length row) ticks ≡ tabulate (length row) (λ i. turn (hallTick (sends i)) i)
+    abbrev go : ℕ → Bool
+    go = sends quota row
+
+    all-asked : turnsOf row ticks ≡ tabulate (length row) (λ i. turn (hallTick (go i)) i)
     unfolding turnsOf
     all-asked = rw taken
 
@@ -209,18 +209,18 @@ module _ (row : List Drive) (quota : ℕ) (sends : ℕ → Bool) (numbers : List
     unfolding callRefusal
     room = ticked-fits (length row) quota (length numbers) taken .1
 
-    drive-at : (i : ℕ) → i < length row → P.drive ticked i ≡ hallTicked (sends i) (P.drive row i) .drive
+    drive-at : (i : ℕ) → i < length row → P.drive ticked i ≡ hallTicked (go i) (P.drive row i) .drive
     drive-at i h =
         ap (λ (l : List Drive). getD l i freshDrive)
-        (ap (rowAfter hallStep row) all-asked ∙ tick-row (λ j. hallTick (sends j)) hallStep row)
+        (ap (rowAfter hallStep row) all-asked ∙ tick-row (λ j. hallTick (go j)) hallStep row)
         ∙ tab-at (length row) _ freshDrive i h
 
     abbrev said-at : ℕ → ℕ
-    said-at i = tickNumber (hallTicked (sends i) (P.drive row i) .answer)
+    said-at i = tickNumber (hallTicked (go i) (P.drive row i) .answer)
 
     numbers-are : filled ≡ tabulate (length numbers) (λ i. pick (ltb i (length row)) (said-at i) (getD numbers i 0))
     unfolding answersAfter
-    numbers-are = rw all-asked (tick-numbers (λ j. hallTick (sends j)) hallStep tickNumber row numbers room)
+    numbers-are = rw all-asked (tick-numbers (λ j. hallTick (go j)) hallStep tickNumber row numbers room)
 
     pub filled-length : length filled ≡ length numbers
     filled-length = ap length numbers-are ∙ tab-length (length numbers) _
@@ -237,7 +237,10 @@ module _ (row : List Drive) (quota : ℕ) (sends : ℕ → Bool) (numbers : List
         let l = ltb-false _ _ e in
         List·getD-eq-default filled 0 (omega (arith, filled-length)) ∙ sym (List·getD-eq-default numbers 0 l))
 
-    module _ (i : ℕ) (h : i < length row) where
+    module _ (goes : ℕ → Bool) (whom : P.Sends quota row goes) (i : ℕ) (h : i < length row) where
+      goes-is : go i ≡ goes i
+      goes-is = sends-only quota row goes whom i h
+
       abbrev d : Drive
       d = P.drive row i
 
@@ -247,98 +250,61 @@ module _ (row : List Drive) (quota : ℕ) (sends : ℕ → Bool) (numbers : List
       pub unformed-ticked : (P1.WellFormed d → ⊥) → (P.drive ticked i ≡ d) × (getD filled i 0 ≡ 1)
       unformed-ticked f =
           let w = not-formed d f in
-          (drive-at i h ∙ unformed-number (sends i) d w .1, number-at i h ∙ unformed-number (sends i) d w .0)
+          (drive-at i h ∙ unformed-number (go i) d w .1, number-at i h ∙ unformed-number (go i) d w .0)
 
-      pub sent-ticked : P1.WellFormed d → sends i ≡ true
+      pub sent-ticked : P1.WellFormed d → goes i ≡ true
           → (P.drive ticked i
           ≡ left with (F.since ≔ 0 ∷ F.reported ≔ 1 ∷ F.lastPosition ≔ left .position ∷ F.lastStatus ≔ statusOf left ∷ F.wait ≔ 0 ∷ []))
           × (getD filled i 0 ≡ 65536 + 256 * left .position + statusOf left)
       sent-ticked f s =
           let w = same-formed d .1 f in
-          (drive-at i h ∙ rw s (sent-drive d w), number-at i h ∙ formed-number (sends i) d w ∙ rw s)
+          (drive-at i h ∙ rw (goes-is ∙ s) (sent-drive d w), number-at i h ∙ formed-number (go i) d w ∙ rw (goes-is ∙ s))
 
-      pub held-ticked : P.Due d → sends i ≡ false
+      pub held-ticked : P.Due d → goes i ≡ false
           → (P.drive ticked i ≡ left with (F.wait ≔ P1.oneMore (d .wait) ∷ [])) × (getD filled i 0 ≡ 0)
       held-ticked f s =
           let w = same-formed d .1 (f .formed) in
           let e = same-due left (statusOf left) .1 (f .reports) in
-          (drive-at i h ∙ rw s (held-drive d w e), number-at i h ∙ formed-number (sends i) d w ∙ rw s)
+          (drive-at i h ∙ rw (goes-is ∙ s) (held-drive d w e), number-at i h ∙ formed-number (go i) d w ∙ rw (goes-is ∙ s))
 
-      pub undue-ticked : P1.WellFormed d → (P.Due d → ⊥) → sends i ≡ false
-          → (P.drive ticked i ≡ left with (F.wait ≔ 0 ∷ [])) × (getD filled i 0 ≡ 0)
-      undue-ticked f u s =
+      pub undue-ticked : P1.WellFormed d → (P.Due d → ⊥) → (P.drive ticked i ≡ left with (F.wait ≔ 0 ∷ [])) × (getD filled i 0 ≡ 0)
+      undue-ticked f u =
           let w = same-formed d .1 f in
           let e : due left ≡ false =
           cases (due left) (λ q. absurd (u record { formed = f; reports = same-due left (statusOf left) .0 q })) (λ q. q) in
-          (drive-at i h ∙ rw s (undue-drive d w e), number-at i h ∙ formed-number (sends i) d w ∙ rw s)
+          let s : goes i ≡ false = cases (goes i) (λ q. absurd (u (whom .due i h q))) (λ q. q) in
+          (drive-at i h ∙ rw (goes-is ∙ s) (undue-drive d w e), number-at i h ∙ formed-number (go i) d w ∙ rw (goes-is ∙ s))
 
       -- a number is that of a report just where the drive is sent
-      pub told-sent : (sends i ≡ true → P.Due d) → sentBy filled i ≡ sends i
-      told-sent f =
-          cases (sends i)
+      pub told-sent : reportAt filled i ≡ goes i
+      told-sent =
+          cases (goes i)
           (λ s.
-          let n = sent-ticked (f s .formed) s .1 in
+          let n = sent-ticked (whom .due i h s .formed) s .1 in
           rw s (le-leb 65536 (getD filled i 0) (omega (arith, n))))
           (λ s.
           rw s
           (cases (wellFormed d)
           (λ w.
-          let n : getD filled i 0 ≡ 0 = number-at i h ∙ formed-number (sends i) d w ∙ rw s in
+          let n : getD filled i 0 ≡ 0 = number-at i h ∙ formed-number (go i) d w ∙ rw (goes-is ∙ s) in
           rw n)
           (λ w.
-          let n : getD filled i 0 ≡ 1 = number-at i h ∙ unformed-number (sends i) d w .0 in
+          let n : getD filled i 0 ≡ 1 = number-at i h ∙ unformed-number (go i) d w .0 in
           rw n)))
 
+    -- and as many numbers are those of reports as drives go
+    told-many : (goes : ℕ → Bool) → P.Sends quota row goes → P.howMany (length row) (reportAt filled) ≡ P.howMany (length row) goes
+    told-many goes whom =
+        sym (same-count (length row) (reportAt filled))
+        ∙ count-same (reportAt filled) goes (length row) (told-sent goes whom)
+        ∙ same-count (length row) goes
+
+    pub reports-sent : (isDue : ℕ → Bool) → ((i : ℕ) → i < length row → (isDue i ≡ true) ↔ P.Due (P.drive row i))
+        → (let many = P.howMany (length row) isDue in P.howMany (length row) (reportAt filled) ≡ choose (many exceeds quota) quota many)
+    reports-sent isDue tells =
+        let whom = whom-it-sends quota row in
+        told-many (sends quota row) whom ∙ whom .many isDue tells
+
 -- the numbers of reports
-pub report-number : (numbers : List ℕ) (i : ℕ) → (sentBy numbers i ≡ true) ↔ (65536 ≤ getD numbers i 0)
+pub report-number : (numbers : List ℕ) (i : ℕ) → (reportAt numbers i ≡ true) ↔ (65536 ≤ getD numbers i 0)
 report-number numbers i = (leb-true 65536 (getD numbers i 0), le-leb 65536 (getD numbers i 0))
-
--- ── Who is sent decides all else ──
-
-module _ (row : List Drive) (quota : ℕ) (numbers : List ℕ) (f g : ℕ → Bool) (same : (i : ℕ) → i < length row → f i ≡ g i) where
-  same-turns : turnsOf (length row) (tick quota f (length numbers)) ≡ turnsOf (length row) (tick quota g (length numbers))
-  unfolding turnsOf callRefusal
-  same-turns =
-      ap (λ (ts : List Turn). pick (eqb (tickRefusal (length row) quota (length numbers)) 0) ts [])
-      (tab-same (turn (hallTick true) 0) (length row) _ _ (λ i h. ap (λ (b : Bool). turn (hallTick b) i) (same i h)))
-
-  same-answer : callRefusal (length row) (tick quota f (length numbers)) ≡ callRefusal (length row) (tick quota g (length numbers))
-  unfolding callRefusal
-  same-answer = refl
-
-  same-drives : rowAfter hallStep row (turnsOf (length row) (tick quota f (length numbers)))
-      ≡ rowAfter hallStep row (turnsOf (length row) (tick quota g (length numbers)))
-  same-drives = ap (rowAfter hallStep row) same-turns
-
-  same-numbers : answersAfter hallStep row (tick quota f (length numbers)) numbers
-      ≡ answersAfter hallStep row (tick quota g (length numbers)) numbers
-  unfolding answersAfter
-  same-numbers = ap (λ (ts : List Turn). answersIn tickNumber (turned hallStep row ts) numbers) same-turns
-
-pub determined : (row : List Drive) (quota : ℕ) (numbers : List ℕ) (a b : ℕ) (after other : List Drive) (filled more : List ℕ)
-    → Result row quota numbers a after filled → Result row quota numbers b other more
-    → ((i : ℕ) → i < length row → sentBy filled i ≡ sentBy more i)
-    → (a ≡ b) × (after ≡ other) × (filled ≡ more)
-determined row quota numbers a b after other filled more r t same = (
-  r .refusal ∙ same-answer row quota numbers _ _ same ∙ sym (t .refusal),
-  r .drives ∙ same-drives row quota numbers _ _ same ∙ sym (t .drives),
-  r .told ∙ same-numbers row quota numbers _ _ same ∙ sym (t .told),
-)
-
--- every set that may be sent is that of a result
-pub every-set : (row : List Drive) (quota : ℕ) (sends : ℕ → Bool) (numbers : List ℕ)
-    → P.answerTo (length row) (tick quota sends (length numbers)) ≡ 0
-    → P.MaySend quota row sends
-    → (let c = tick quota sends (length numbers) in
-    Result row quota numbers 0 (rowAfter hallStep row (turnsOf (length row) c)) (answersAfter hallStep row c numbers))
-every-set row quota sends numbers ok m =
-    let c = tick quota sends (length numbers) in
-    let filled = answersAfter hallStep row c numbers in
-    let same : (i : ℕ) → i < length row → sends i ≡ sentBy filled i =
-    λ i h. sym (told-sent row quota sends numbers ok i h (m .due i h)) in
-    record {
-      refusal = sym (same-call (length row) c ∙ ok) ∙ same-answer row quota numbers sends (sentBy filled) same;
-      choice = same-allowed-call quota row (sentBy filled) (length numbers) .1 (λ z. may-by quota row sends (sentBy filled) same m);
-      drives = same-drives row quota numbers sends (sentBy filled) same;
-      told = same-numbers row quota numbers sends (sentBy filled) same;
-    }

@@ -13,13 +13,13 @@ use Rattle.damper.specs.declared.Drive.{Drive}
 use Rattle.damper.specs.WellFormed.{wellFormed}
 use Rattle.damper.specs.Tick.{advance}
 use Rattle.damper.specs.Step.{tickWith}
-use Rattle.damper.specs.Carry.{StepOn}
 use Rattle.invariant.specs.Effects.{advance-params}
 use Rattle.arrival.specs.Arrival.{tickTarget, Ruled, Test, drivesFound, after, RuledForK, Settles, tickAccepted, rateWritten}
 use Rattle.arrival.specs.Laws.{advance-toward, found-append, Moves, Toward, ruled-toward, formed, stands, settles}
 use Rattle.arrival.specs.Theorem.{step-moves}
-use Rattle.hall.specs.Hall.{Call, Given, bytes, hallTick, turnsOf, at, rowAfter, turnsIn, hallAfter, sharedOut, share}
-use Rattle.hall.specs.Quota.{hallTicked, hallStep}
+use Rattle.hall.specs.Hall.{Call, at}
+use Rattle.hall.specs.Quota.{hallTicked}
+use Rattle.hall.specs.Turns.{Given, bytes, hallTick, turnsOf, rowAfter, turnsIn, hallAfter, sharedOut, share, hallStep}
 use Rattle.hall.specs.Laws.{row-length}
 use Rattle.shares.specs.Shares.{shared-append, turns-drive, share-drive, hall-length}
 use Rattle.shares.specs.WaitLaws.{formed-ticked}
@@ -35,12 +35,12 @@ rateGiven d (hallTick sent) = false
 
 -- the drives that the accepted ticks of the share of place `i` find
 abbrev pub ticksOf : List Drive → ℕ → List Call → List Drive
-ticksOf row i cs = drivesFound hallStep tickGiven (at row i) (share (length row) i cs)
+ticksOf row i cs = drivesFound hallStep tickGiven (at row i) (share row i cs)
 
 -- the row after each of a list of calls
-unfoldable pub rowsAfter : StepOn Given → List Drive → List Call → List (List Drive)
-rowsAfter step row [] = []
-rowsAfter step row (c ∷ cs) = let next = rowAfter step row (turnsOf (length row) c) in next ∷ rowsAfter step next cs
+unfoldable pub rowsAfter : List Drive → List Call → List (List Drive)
+rowsAfter row [] = []
+rowsAfter row (c ∷ cs) = let next = rowAfter hallStep row (turnsOf row c) in next ∷ rowsAfter next cs
 
 -- a hall tick moves a drive as a tick does, sent or held
 ticked-position : (sent : Bool) (d : Drive) → wellFormed d ≡ true → hallTicked sent d .drive .position ≡ advance d .drive .position
@@ -80,38 +80,37 @@ StandsAt i t row = at row i .position ≡ t
 module _ (i : ℕ) (t : ℕ) where
   -- the drive at place `i` stays while each tick of its share finds the target `t`
   rows-stand : (row : List Drive) (cs : List Call) → i < length row → wellFormed (at row i) ≡ true → StandsAt i t row
-      → Every (Toward t) (ticksOf row i cs) → Every (StandsAt i t) (rowsAfter hallStep row cs)
+      → Every (Toward t) (ticksOf row i cs) → Every (StandsAt i t) (rowsAfter row cs)
   unfolding rowsAfter turnsIn
   rows-stand row [] h w e ts = none
   rows-stand row (c ∷ cs) h w e ts =
-      let n = length row in
-      let us = turnsOf n c in
+      let us = turnsOf row c in
       let d = at row i in
       let next = rowAfter hallStep row us in
       let own = sharedOut i us in
+      let gs = share next i cs in
       let now = drivesFound hallStep tickGiven d own in
-      let later = drivesFound hallStep tickGiven (after hallStep d own) (share n i cs) in
+      let later = drivesFound hallStep tickGiven (after hallStep d own) gs in
       let all : Every (Toward t) (now ++ later) =
-      rw (shared-append i us (turnsIn n cs), found-append hallStep tickGiven d own (share n i cs)) at ts in
-      let here : at next i ≡ after hallStep d own = turns-drive hallStep row us i h in
-      let size : length next ≡ n = row-length hallStep row us in
+      rw (shared-append i us (turnsIn next cs), found-append hallStep tickGiven d own gs) at ts in
+      let here : at next i ≡ after hallStep d own = turns-drive row us i h in
       let there : StandsAt i t next = rw here (stands hall-moves t d own w e (every-front now later all)) in
-      let rest : Every (Toward t) (ticksOf next i cs) = rw (size, here) (every-rest now later all) in
-      more there (rows-stand next cs (rw size h) (rw here (formed hall-moves d own w)) there rest)
+      let rest : Every (Toward t) (ticksOf next i cs) = rw here (every-rest now later all) in
+      more there (rows-stand next cs (rw (row-length hallStep row us) h) (rw here (formed hall-moves d own w)) there rest)
 
 -- For every row, every place of it that holds such a drive, every source and target, and all lists of calls: "the drive stands at that
 -- target after the last of them and stays while that commander and target rule".
 module _ (row : List Drive) (i : ℕ) (h : i < length row) (w : wellFormed (at row i) ≡ true) (b : at row i .position < 256) where
   pub share-settles : (c : Source) (t : ℕ) (cs : List Call)
-      → RuledForK hallStep tickGiven rateGiven (at row i) c t (share (length row) i cs)
-      → (let row′ = hallAfter hallStep row cs in
+      → RuledForK hallStep tickGiven rateGiven (at row i) c t (share row i cs)
+      → (let row′ = hallAfter row cs in
       StandsAt i t row′
-      × ((cs′ : List Call) → Every (Ruled c t) (ticksOf row′ i cs′) → Every (StandsAt i t) (rowsAfter hallStep row′ cs′)))
+      × ((cs′ : List Call) → Every (Ruled c t) (ticksOf row′ i cs′) → Every (StandsAt i t) (rowsAfter row′ cs′)))
   share-settles c t cs r =
-      let n = length row in
       let d = at row i in
-      let row′ = hallAfter hallStep row cs in
-      let here : at row′ i ≡ after hallStep d (share n i cs) = share-drive hallStep row cs i h in
-      let there : StandsAt i t row′ = rw here (given-settles d w b c t (share n i cs) r .0) in
-      let formed′ : wellFormed (at row′ i) ≡ true = rw here (formed hall-moves d (share n i cs) w) in
-      (there, λ cs′ us. rows-stand i t row′ cs′ (rw (hall-length hallStep row cs) h) formed′ there (ruled-toward us))
+      let gs = share row i cs in
+      let row′ = hallAfter row cs in
+      let here : at row′ i ≡ after hallStep d gs = share-drive row cs i h in
+      let there : StandsAt i t row′ = rw here (given-settles d w b c t gs r .0) in
+      let formed′ : wellFormed (at row′ i) ≡ true = rw here (formed hall-moves d gs w) in
+      (there, λ cs′ us. rows-stand i t row′ cs′ (rw (hall-length row cs) h) formed′ there (ruled-toward us))

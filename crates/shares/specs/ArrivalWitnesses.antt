@@ -5,7 +5,6 @@ use mathlib.Core.Bool.{Bool, true, false, _&&_}
 use mathlib.Core.List.{List, [], _∷_, _++_, map}
 use Prim.Native.Nat.{ℕ}
 use native.Mathlib.Omega.{arith}
-use lib.Dec.{eqb}
 use lib.ListN.{length, replicate, set}
 use Rattle.numbers.specs.Every.{Every}
 use Rattle.table.specs.Table.{freshValues}
@@ -20,8 +19,8 @@ use Rattle.arrival.specs.Arrival.{Ruled, Test, drivesFound, RuledForK, Settles,
 use Rattle.arrival.specs.Witnesses as Arrival
 use Rattle.arrival.specs.Witnesses.{each-ruled}
 use Rattle.hall.specs.Closed as Hall
-use Rattle.hall.specs.Hall.{Call, give, tick, Given, bytes, hallTick, at, hallAfter, share}
-use Rattle.hall.specs.Quota.{hallStep, allowedCalls}
+use Rattle.hall.specs.Hall.{Call, give, tick, at}
+use Rattle.hall.specs.Turns.{Given, bytes, hallTick, hallAfter, share, hallStep}
 use Rattle.shares.specs.Arrival.{tickGiven, rateGiven, ticksOf, rowsAfter, share-settles}
 
 unfoldable computation : Unit {0}
@@ -35,29 +34,29 @@ alwaysDue = drive 0 (set (set (set freshValues 3 1) 8 1) 9 100) noCommands 0 noR
 abbrev two : List Drive
 two = alwaysDue ∷ alwaysDue ∷ []
 
--- an event given to the drive at place 1, and a hall tick of quota 1 that sends the drive at place `j`
+-- an event given to the drive at place 1, and a hall tick of quota 1, which sends the two in turn
 abbrev giving : ℕ → ℕ → ℕ → Call
 giving kind a c = give (1 ∷ []) (bytesOf (event kind a 0 c)) 1
 
-abbrev sending : ℕ → Call
-sending j = tick 1 (λ i. eqb i j) 2
+abbrev ticks : Call
+ticks = tick 1 2
 
 -- place 1 is held, sent and held; a call that names a drive 7 is refused
 abbrev calls : List Call
-calls = giving Kind.forcing 3 0 ∷ sending 0 ∷ give (7 ∷ []) (bytesOf (event Kind.forcing 0 0 0)) 1 ∷ sending 1 ∷ sending 0 ∷ []
+calls = giving Kind.forcing 3 0 ∷ ticks ∷ give (7 ∷ []) (bytesOf (event Kind.forcing 0 0 0)) 1 ∷ ticks ∷ ticks ∷ []
 
 -- then Rate is written, and place 1 is sent and held
 abbrev later : List Call
-later = giving Kind.write 203 1 ∷ sending 1 ∷ sending 0 ∷ []
+later = giving Kind.write 203 1 ∷ ticks ∷ ticks ∷ []
 
 abbrev arrived : List Drive
-arrived = hallAfter hallStep two calls
+arrived = hallAfter two calls
 
 abbrev positions : List (List Drive) → List ℕ
 positions rows = map (λ (row : List Drive). at row 1 .position) rows
 
 -- The conditions hold, so that by the theorem place 1 stands open.
-pub forced : RuledForK hallStep tickGiven rateGiven (at two 1) forcing 255 (share 2 1 calls)
+pub forced : RuledForK hallStep tickGiven rateGiven (at two 1) forcing 255 (share two 1 calls)
 unfolding computation
 forced = record { ruled = each-ruled forcing 255 _ refl refl; unwritten = refl; enough = omega arith }
 
@@ -65,18 +64,16 @@ pub forced-settles : at arrived 1 .position ≡ 255
 unfolding computation
 forced-settles = share-settles two 1 (omega arith) refl (omega arith) forcing 255 calls forced .0
 
-pub forced-open : (allowedCalls two calls ≡ true)
-    × (length (ticksOf two 1 calls) ≡ 3)
-    × (positions (rowsAfter hallStep two calls) ≡ 0 ∷ 100 ∷ 100 ∷ 200 ∷ 255 ∷ [])
+pub forced-open : (length (ticksOf two 1 calls) ≡ 3)
+    × (positions (rowsAfter two calls) ≡ 0 ∷ 100 ∷ 100 ∷ 200 ∷ 255 ∷ [])
 unfolding computation
-forced-open = (refl, refl, refl)
+forced-open = (refl, refl)
 
-pub stays-open : (allowedCalls arrived later ≡ true)
-    × Every (Ruled forcing 255) (ticksOf arrived 1 later)
-    × (length (drivesFound hallStep rateGiven (at arrived 1) (share 2 1 later)) ≡ 1)
-    × (positions (rowsAfter hallStep arrived later) ≡ replicate 3 255)
+pub stays-open : Every (Ruled forcing 255) (ticksOf arrived 1 later)
+    × (length (drivesFound hallStep rateGiven (at arrived 1) (share arrived 1 later)) ≡ 1)
+    × (positions (rowsAfter arrived later) ≡ replicate 3 255)
 unfolding computation
-stays-open = (refl, each-ruled forcing 255 _ refl refl, refl, refl)
+stays-open = (each-ruled forcing 255 _ refl refl, refl, refl)
 
 -- Two wordings that are false of what a drive is given: that a hall tick which holds its report is no tick, and that a write of Rate by an
 -- event call is none.

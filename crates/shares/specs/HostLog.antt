@@ -19,8 +19,9 @@ use Rattle.damper.specs.Step.{tickWith, stepOf}
 use Rattle.damper.specs.Carry.{outcomes, answersIn}
 use Rattle.damper.specs.CarryLaws.{outcomes-append}
 use Rattle.choice.specs.Sent.{isReportNumber}
-use Rattle.hall.specs.Hall.{Call, give, tick, isTick, callRefusal, bytes, hallTick, turn, turnsOf, at, rowAfter, tickNumber, answersAfter, turnsIn, sharedOut, share}
-use Rattle.hall.specs.Quota.{hallTicked, hallStep, allowedCalls}
+use Rattle.hall.specs.Hall.{Call, give, tick, isTick, callRefusal, at}
+use Rattle.hall.specs.Quota.{hallTicked, sends}
+use Rattle.hall.specs.Turns.{bytes, hallTick, turn, turnsOf, rowAfter, tickNumber, answersAfter, turnsIn, sharedOut, share, hallStep}
 use Rattle.hall.specs.Laws.{row-length}
 use Rattle.hall.specs.TickLaws.{tick-shared, number-at}
 use Rattle.history.specs.Log.{Entry}
@@ -36,7 +37,7 @@ readOff n = pick (isReportNumber n) (sent ((n - 65536) / 256) ((n - 65536) % 256
 -- what a call says of the drive at place `i`, by the number that refuses it, 0 if none does, and its answer row after it
 abbrev heard : ℕ → Call → ℕ → List ℕ → Sent
 heard i (give list s room) n answers = silent
-heard i (tick quota sends room) n answers = pick (eqb n 0) (readOff (getD answers i 0)) silent
+heard i (tick quota room) n answers = pick (eqb n 0) (readOff (getD answers i 0)) silent
 
 -- a report comes before the later ones, silence is not noted
 abbrev noted : Sent → List Sent → List Sent
@@ -56,7 +57,7 @@ unfoldable pub hostLog : List Drive → ℕ → List Lent → List Sent
 hostLog row i [] = []
 hostLog row i (l ∷ ls) =
     let answers = answersAfter hallStep row (l .call) (l .row) in
-    noted (heard i (l .call) (callRefusal (length row) (l .call)) answers) (hostLog (rowAfter hallStep row (turnsOf (length row) (l .call))) i ls)
+    noted (heard i (l .call) (callRefusal (length row) (l .call)) answers) (hostLog (rowAfter hallStep row (turnsOf row (l .call))) i ls)
 
 -- what the entries of a log say
 abbrev pub sentIn : List Entry → List Sent
@@ -101,36 +102,36 @@ unsaid i s t d (j ∷ list) later =
 
 heard-said : (row : List Drive) (i : ℕ) → i < length row → (c : Call) (answers : List ℕ) (later : List Outcome)
     → noted (heard i c (callRefusal (length row) c) (answersAfter hallStep row c answers)) (said later)
-    ≡ said (outcomes hallStep (at row i) (sharedOut i (turnsOf (length row) c)) ++ later)
+    ≡ said (outcomes hallStep (at row i) (sharedOut i (turnsOf row c)) ++ later)
 unfolding said outcomes sharedOut turnsOf answersAfter answersIn
 heard-said row i h (give list s room) answers later =
     cases (eqb (callRefusal (length row) (give list s room)) 0)
     (λ q. rw q (sym (unsaid i s (no-tick (length row) list s room (eqb-true _ 0 q)) (at row i) list later)))
     (λ q. rw q)
-heard-said row i h (tick quota sends room) answers later =
-    cases (eqb (callRefusal (length row) (tick quota sends room)) 0)
+heard-said row i h (tick quota room) answers later =
+    cases (eqb (callRefusal (length row) (tick quota room)) 0)
     (λ q.
     let n = length row in
-    let given = tick-shared (λ x. hallTick (sends x)) n i h in
-    rw (q, number-at (λ x. hallTick (sends x)) hallStep tickNumber _ n row i h, number-read (sends i) (at row i), given))
+    let go = sends quota row in
+    let given = tick-shared (λ x. hallTick (go x)) n i h in
+    rw (q, number-at (λ x. hallTick (go x)) hallStep tickNumber _ n row i h, number-read (go i) (at row i), given))
     (λ q. rw q)
 
 -- The log of a drive's place says what its share does, whatever drive stood there.
 host-said : (row : List Drive) (ls : List Lent) (i : ℕ) → i < length row
-    → hostLog row i ls ≡ said (outcomes hallStep (at row i) (share (length row) i (callsOf ls)))
+    → hostLog row i ls ≡ said (outcomes hallStep (at row i) (share row i (callsOf ls)))
 unfolding hostLog said outcomes sharedOut turnsIn
 host-said row [] i h = refl
 host-said row (l ∷ ls) i h =
-    let ts = turnsOf (length row) (l .call) in
-    let same = row-length hallStep row ts in
-    rw (host-said (rowAfter hallStep row ts) ls i (rw same h), same, turns-drive hallStep row ts i h, shared-append, outcomes-append)
+    let ts = turnsOf row (l .call) in
+    rw (host-said (rowAfter hallStep row ts) ls i (rw (row-length hallStep row ts) h), turns-drive row ts i h, shared-append, outcomes-append)
     (heard-said row i h (l .call) (l .row) _)
 
 -- The reports that a host reads off its rows of numbers are, in order, those of the hall ticks that send, as the drive's share decides them:
 -- whatever the other drives were, whatever the lent rows held and whatever was called in between.
-pub host-log : (row : List Drive) (ls : List Lent) (i : ℕ) → i < length row → at row i ≡ freshDrive → allowedCalls row (callsOf ls) ≡ true
-    → hostLog row i ls ≡ sentIn (sharedLog (share (length row) i (callsOf ls)))
-host-log row ls i h fresh a =
+pub host-log : (row : List Drive) (ls : List Lent) (i : ℕ) → i < length row → at row i ≡ freshDrive
+    → hostLog row i ls ≡ sentIn (sharedLog (share row i (callsOf ls)))
+host-log row ls i h fresh =
     host-said row ls i h
-    ∙ rw (← (share-answers hallStep row (callsOf ls) i h)) (said-reports 0 _)
-    ∙ ap sentIn (share-log row (callsOf ls) i h fresh a)
+    ∙ rw (← (share-answers row (callsOf ls) i h)) (said-reports 0 _)
+    ∙ ap sentIn (share-log row (callsOf ls) i h fresh)

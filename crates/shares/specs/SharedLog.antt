@@ -6,7 +6,7 @@ use lib.Dec.{eqb}
 use Rattle.numbers.specs.Numbers.{pick}
 use Rattle.event.specs.declared.Event.{Event}
 use Rattle.event.specs.Event.{eventIn}
-use Rattle.hall.specs.Hall.{Given, bytes, hallTick, tickBytes}
+use Rattle.hall.specs.Turns.{Given, bytes, hallTick, tickBytes}
 use Rattle.history.specs.Readings.{positionIn, statusIn, judgement}
 use Rattle.history.specs.Log.{Entry, entry}
 

@@ -10,8 +10,8 @@ use lib.Dec.{ltb, eqb}
 use lib.ListN.{length, length-map}
 use borrow.Author.Tests.{eqb-true, eqb-false, not-true}
 use Rattle.numbers.specs.Laws.{cases, and-left, and-right, and-intro, or-left}
-use Rattle.numbers.specs.Places.{allBelow, implies}
-use Rattle.numbers.specs.PlaceLaws.{implied, all-at}
+use Rattle.numbers.specs.Places.{implies}
+use Rattle.numbers.specs.PlaceLaws.{implied, implies-by}
 use Rattle.event.specs.Event.{eventIn, formOf, dataRefusal, recordRefusal}
 use Rattle.event.specs.Laws.{admitted}
 use Rattle.rules.specs.Report.{silent}
@@ -27,8 +27,10 @@ use Rattle.damper.specs.Laws.{refusal-none}
 use Rattle.damper.specs.CarryLaws.{outcomes-length}
 use Rattle.damper.specs.Carry.{outcomes, driveAfter}
 use Rattle.invariant.specs.Effects.{report-after, step-accepted, step-refused, refusal-wf}
-use Rattle.hall.specs.Hall.{Call, give, tick, isTick, tickRefusal, callRefusal, Given, bytes, hallTick, turn, tickBytes, bytesIn, turnsOf, at, rowAfter, turnsIn, hallAfter, sharedOut, share, own}
-use Rattle.hall.specs.Quota.{dueNow, hallTicked, hallStep, allowed, allowedCall, allowedCalls}
+use Rattle.hall.specs.Hall.{Call, give, tick, isTick, tickRefusal, callRefusal, at}
+use Rattle.hall.specs.Quota.{dueNow, hallTicked, sends}
+use Rattle.hall.specs.QuotaLaws.{sent-due}
+use Rattle.hall.specs.Turns.{Given, bytes, hallTick, turn, tickBytes, bytesIn, turnsOf, rowAfter, turnsIn, hallAfter, sharedOut, share, own, hallStep}
 use Rattle.hall.specs.Laws.{event-passed, row-length}
 use Rattle.hall.specs.TickLaws.{tick-shared}
 use Rattle.history.specs.Readings as Readings
@@ -42,7 +44,7 @@ use Rattle.shares.specs.SharedLog.{sharedLogFrom, sharedLog}
 
 -- the trace of the drive at place `i`, built from the hall's own turns: what they give, their answers and the positions that they leave
 abbrev pub shareTrace : List Drive → ℕ → List Call → Trace
-shareTrace row i cs = traceOn [] (map bytesIn (share (length row) i cs)) (own hallStep row i cs)
+shareTrace row i cs = traceOn [] (map bytesIn (share row i cs)) (own row i cs)
 
 -- What a hall gives a drive: no event record that is a tick, and of hall ticks only those that find the drive due send a report.
 unfoldable pub fitting : Drive → List Given → Bool
@@ -72,35 +74,29 @@ events-fit i s t d [] = refl
 events-fit i s t d (j ∷ list) =
     cases (eqb j i) (λ q. rw (q, t) (events-fit i s t (stepOf d s .drive) list)) (λ q. rw q (events-fit i s t d list))
 
-call-fits : (row : List Drive) (i : ℕ) → i < length row → (c : Call) → allowedCall row c ≡ true
-    → fitting (at row i) (sharedOut i (turnsOf (length row) c)) ≡ true
-unfolding turnsOf callRefusal allowed fitting sharedOut
-call-fits row i b (give list s room) a =
+call-fits : (row : List Drive) (i : ℕ) → i < length row → (c : Call) → fitting (at row i) (sharedOut i (turnsOf row c)) ≡ true
+unfolding turnsOf callRefusal fitting sharedOut
+call-fits row i b (give list s room) =
     cases (eqb (callRefusal (length row) (give list s room)) 0)
     (λ q. rw q (events-fit i s (no-tick (length row) list s room (eqb-true _ 0 q)) (at row i) list))
     (λ q. rw q)
-call-fits row i b (tick quota sends room) a =
+call-fits row i b (tick quota room) =
     let n = length row in
     cases (eqb (tickRefusal n quota room) 0)
     (λ q.
-    let only = and-left (allBelow n (λ x. implies (sends x) (dueNow (at row x)))) _ (rw q at a) in
-    rw (q, tick-shared (λ x. hallTick (sends x)) n i b)
-    (and-intro (all-at (λ x. implies (sends x) (dueNow (at row x))) n only i b) refl))
+    rw (q, tick-shared (λ x. hallTick (sends quota row x)) n i b)
+    (and-intro (implies-by (sends quota row i) _ (sent-due quota row i)) refl))
     (λ q. rw q)
 
-pub share-fits : (cs : List Call) (row : List Drive) (i : ℕ) → i < length row → allowedCalls row cs ≡ true
-    → fitting (at row i) (share (length row) i cs) ≡ true
-unfolding turnsIn sharedOut allowedCalls fitting
-share-fits [] row i b a = refl
-share-fits (c ∷ cs) row i b a =
-    let n = length row in
-    let ts = turnsOf n c in
+pub share-fits : (cs : List Call) (row : List Drive) (i : ℕ) → i < length row → fitting (at row i) (share row i cs) ≡ true
+unfolding turnsIn sharedOut fitting
+share-fits [] row i b = refl
+share-fits (c ∷ cs) row i b =
+    let ts = turnsOf row c in
     let row′ = rowAfter hallStep row ts in
-    let size : length row′ ≡ n = row-length hallStep row ts in
-    let later = share-fits cs row′ i (rw size b) (and-right (allowedCall row c) _ a) in
-    rw (shared-append i ts (turnsIn n cs))
-    (fitting-append (at row i) (sharedOut i ts) (share n i cs) (call-fits row i b c (and-left (allowedCall row c) _ a))
-    (rw (size, turns-drive hallStep row ts i b) at later))
+    let later = share-fits cs row′ i (rw (row-length hallStep row ts) b) in
+    rw (shared-append i ts (turnsIn row′ cs))
+    (fitting-append (at row i) (sharedOut i ts) (share row′ i cs) (call-fits row i b c) (rw (turns-drive row ts i b) at later))
 
 -- "Only accepted ticks count", and a hall tick is one: no well-formed drive refuses it.
 pub tick-accepted : (t : Trace) → judgement (accepted t) tickBytes ≡ 0
@@ -151,19 +147,19 @@ goods (hallTick sent ∷ gs) d t g q =
     let f = facts-hall d t g sent (and-left (implies sent (dueNow d)) _ q) in
     goods gs (o .drive) (momentOf tickBytes o ∷ t) (f .good) (and-right (implies sent (dueNow d)) _ q)
 
-module _ (row : List Drive) (cs : List Call) (i : ℕ) (h : i < length row) (fresh : at row i ≡ freshDrive) (a : allowedCalls row cs ≡ true) where
-  fits : fitting freshDrive (share (length row) i cs) ≡ true
-  fits = rw (← fresh) (share-fits cs row i h a)
+module _ (row : List Drive) (cs : List Call) (i : ℕ) (h : i < length row) (fresh : at row i ≡ freshDrive) where
+  fits : fitting freshDrive (share row i cs) ≡ true
+  fits = rw (← fresh) (share-fits cs row i h)
 
   -- The sentences of demand 3 hold of it, that about waiting where step 4 would not report.
   pub share-claim : HallClaim (shareTrace row i cs)
-  share-claim = rw (share-answers hallStep row cs i h, fresh) (claims (share (length row) i cs) freshDrive [] fresh-good fits tt)
+  share-claim = rw (share-answers row cs i h, fresh) (claims (share row i cs) freshDrive [] fresh-good fits tt)
 
   -- The drive agrees with it.
-  pub share-good : Good (at (hallAfter hallStep row cs) i) (shareTrace row i cs)
+  pub share-good : Good (at (hallAfter row cs) i) (shareTrace row i cs)
   share-good =
-      rw (share-answers hallStep row cs i h, share-drive hallStep row cs i h, fresh)
-      (goods (share (length row) i cs) freshDrive [] fresh-good fits)
+      rw (share-answers row cs i h, share-drive row cs i h, fresh)
+      (goods (share row i cs) freshDrive [] fresh-good fits)
 
 -- "a last tick that breaks that limb always finds its drive due": of any trace, where the sentence about waiting is broken, step 4 would
 -- report; and of a drive that agrees with its trace, the hall tick found it due (over every list of calls in Waiting.antt)
@@ -179,11 +175,11 @@ finds-due d t g sent q b =
     and-intro (g .wf) (due-read d t tickBytes g (tick-accepted t) refl o ∙ broken-due (momentOf tickBytes o) t h b)
 
 -- The trace has as many records as the share, whatever the drive was.
-pub share-whole : (row : List Drive) (cs : List Call) (i : ℕ) → i < length row → length (shareTrace row i cs) ≡ length (share (length row) i cs)
+pub share-whole : (row : List Drive) (cs : List Call) (i : ℕ) → i < length row → length (shareTrace row i cs) ≡ length (share row i cs)
 share-whole row cs i h =
-    let gs = share (length row) i cs in
+    let gs = share row i cs in
     let size : length (map bytesIn gs) ≡ length gs = length-map gs bytesIn in
-    rw (share-answers hallStep row cs i h)
+    rw (share-answers row cs i h)
     (trace-length (map bytesIn gs) (outcomes hallStep (at row i) gs) [] (outcomes-length hallStep (at row i) gs ∙ sym size) ∙ zero-add _ ∙ size)
 
 -- an event other than a tick is answered by no report
@@ -224,8 +220,8 @@ logs (hallTick false ∷ gs) d t n g q =
     rw (silent-in (o .answer) (sent-reports d false (g .wf)), rest, tick-accepted t)
 
 -- The drive's reports are those hall ticks of its share that send, each numbered by its place in the share.
-pub share-log : (row : List Drive) (cs : List Call) (i : ℕ) → i < length row → at row i ≡ freshDrive → allowedCalls row cs ≡ true
-    → reportsFrom 0 (own hallStep row i cs) ≡ sharedLog (share (length row) i cs)
+pub share-log : (row : List Drive) (cs : List Call) (i : ℕ) → i < length row → at row i ≡ freshDrive
+    → reportsFrom 0 (own row i cs) ≡ sharedLog (share row i cs)
 unfolding accepted
-share-log row cs i h fresh a =
-    rw (share-answers hallStep row cs i h, fresh) (logs (share (length row) i cs) freshDrive [] 0 fresh-good (fits row cs i h fresh a))
+share-log row cs i h fresh =
+    rw (share-answers row cs i h, fresh) (logs (share row i cs) freshDrive [] 0 fresh-good (fits row cs i h fresh))

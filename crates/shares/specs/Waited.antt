@@ -17,8 +17,9 @@ use Rattle.damper.specs.Step.{refusalOf, stepOf}
 use Rattle.damper.specs.Carry.{outcomes, driveAfter}
 use Rattle.invariant.specs.Effects.{refusal-wf}
 use Rattle.hall.specs.Hall as H
-use Rattle.hall.specs.Hall.{Call, Given, bytes, hallTick, tickBytes, bytesIn, at, hallAfter, share}
-use Rattle.hall.specs.Quota.{dueNow, hallTicked, hallStep, allowedCalls}
+use Rattle.hall.specs.Hall.{Call, at}
+use Rattle.hall.specs.Quota.{dueNow, hallTicked}
+use Rattle.hall.specs.Turns.{Given, bytes, hallTick, tickBytes, bytesIn, hallAfter, share, hallStep}
 use Rattle.history.specs.Readings.{isTick, isRestart, judgement}
 use Rattle.history.specs.Claim.{Trace, momentOf, accepted, acceptedAs, reports, dueIn, traceOn}
 use Rattle.history.specs.Facts.{Good, judged, due-read}
@@ -77,9 +78,9 @@ waited (hallTick sent ∷ gs) d t g q w =
     waited gs (o .drive) (momentOf tickBytes o ∷ t) (f .good) (and-right (implies sent (dueNow d)) _ q) (waited-tick d t g w sent)
 
 -- The drive keeps that number, "stopping at 65,535".
-pub share-wait : (row : List Drive) (cs : List Call) (i : ℕ) → i < length row → at row i ≡ freshDrive → allowedCalls row cs ≡ true
-    → at (hallAfter hallStep row cs) i .wait ≡ min (waitOf (shareTrace row i cs)) 65535
+pub share-wait : (row : List Drive) (cs : List Call) (i : ℕ) → i < length row → at row i ≡ freshDrive
+    → at (hallAfter row cs) i .wait ≡ min (waitOf (shareTrace row i cs)) 65535
 unfolding waitOf
-share-wait row cs i h fresh a =
-    rw (share-answers hallStep row cs i h, share-drive hallStep row cs i h, fresh)
-    (waited (share (length row) i cs) freshDrive [] fresh-good (rw (← fresh) (share-fits cs row i h a)) refl)
+share-wait row cs i h fresh =
+    rw (share-answers row cs i h, share-drive row cs i h, fresh)
+    (waited (share row i cs) freshDrive [] fresh-good (rw (← fresh) (share-fits cs row i h)) refl)

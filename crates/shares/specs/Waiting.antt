@@ -1,6 +1,6 @@
 -- Document 02, W-204: the bound "replaces the waiting limb for halls". What it leaves of that limb: of a drive that was fresh at first, and
--- not restarted meanwhile, the old sentence about waiting is not broken at as many hall ticks in a row as the row has drives; and "a last
--- tick that breaks that limb always finds its drive due".
+-- not restarted meanwhile, of hall ticks in a row whose quotas add up to the number of drives or more at least one does not break the old
+-- sentence about waiting, and so of as many as the row has drives; and "a last tick that breaks that limb always finds its drive due".
 use mathlib.Core.Path.{_≡_, refl, sym, subst, ap, _∙_}
 use mathlib.Core.Bool.{Bool, true, false, not, false≢true}
 use mathlib.Core.List.{List, [], _∷_, _++_, map, append-assoc, append-cancel-right}
@@ -20,8 +20,9 @@ use Rattle.damper.specs.Step.{stepOf}
 use Rattle.damper.specs.Carry.{outcomes, driveAfter}
 use Rattle.invariant.specs.Effects.{refusal-wf}
 use Rattle.hall.specs.Hall as H
-use Rattle.hall.specs.Hall.{Call, tick, callRefusal, Given, bytes, hallTick, tickBytes, bytesIn, turnsOf, at, turnsIn, hallAfter, rowAfter, sharedOut, share}
-use Rattle.hall.specs.Quota.{dueNow, hallTicked, hallStep, allowedCall, allowedCalls}
+use Rattle.hall.specs.Hall.{Call, tick, callRefusal, at}
+use Rattle.hall.specs.Quota.{dueNow, hallTicked, sends}
+use Rattle.hall.specs.Turns.{Given, bytes, hallTick, hallStep, tickBytes, bytesIn, turnsOf, turnsIn, hallAfter, sharedOut, share}
 use Rattle.hall.specs.TickLaws.{tick-shared}
 use Rattle.history.specs.Readings.{isTick, isRestart}
 use Rattle.history.specs.Claim.{Moment, Trace, momentOf, acceptedAs, reports, ticksIn, Waiting, traceOn}
@@ -29,7 +30,7 @@ use Rattle.history.specs.Facts.{Good, good-time, judged}
 use Rattle.history.specs.Theorem.{facts}
 use Rattle.shares.specs.Shares.{shared-append, share-append, hall-length, share-drive, share-answers}
 use Rattle.shares.specs.WaitLaws.{restart}
-use Rattle.shares.specs.Bound.{ticksGiven, dueAtEach, sentAtOne, restarted, sent-in-time}
+use Rattle.shares.specs.Bound.{ticksGiven, dueAtEach, sentAtOne, restarted, quotasIn, sent-in-quotas, sent-in-time}
 use Rattle.shares.specs.Theorem.{shareTrace, fitting, share-fits, tick-accepted, no-tick-in, facts-hall, share-good, finds-due, sent-reports}
 
 -- among the moments of `new`, which came after `old`: the sentence about waiting is broken at each accepted tick, and no restart is accepted
@@ -153,70 +154,78 @@ held-back (hallTick sent ∷ gs) d t g q b =
       count = ap (λ (u : Trace). ticksIn u t) whole ∙ ticks-split (grown (o .drive) gs) m t ∙ omega (arith, first .2, rest .count);
     }
 
--- a list of calls in two parts
-allowed-parts : (cs ds : List Call) (row : List Drive) → allowedCalls row (cs ++ ds) ≡ true
-    → (allowedCalls row cs ≡ true) × (allowedCalls (hallAfter hallStep row cs) ds ≡ true)
-unfolding allowedCalls hallAfter
-allowed-parts [] ds row a = (refl, a)
-allowed-parts (c ∷ cs) ds row a =
-    let r = allowed-parts cs ds (rowAfter hallStep row (turnsOf (length row) c)) (and-right (allowedCall row c) _ a) in
-    (and-intro (and-left (allowedCall row c) _ a) (r .0), r .1)
-
-share-grown : (row : List Drive) (before after : List Call) (i : ℕ) → i < length row
-    → shareTrace row i (before ++ after)
-    ≡ grown (at (hallAfter hallStep row before) i) (share (length row) i after) ++ shareTrace row i before
+share-grown : (row : List Drive) (before after : List Call) (i : ℕ) → i < length row → let row′ = hallAfter row before in
+    shareTrace row i (before ++ after) ≡ grown (at row′ i) (share row′ i after) ++ shareTrace row i before
 share-grown row before after i h =
-    let n = length row in
-    let whole = share-answers hallStep row (before ++ after) i h in
-    let part = share-answers hallStep row before i h in
-    rw (whole, part, share-append n i before after, share-drive hallStep row before i h)
-    (trace-append (share n i before) (share n i after) (at row i) [] ∙ trace-parts _ _ _)
+    let whole = share-answers row (before ++ after) i h in
+    let part = share-answers row before i h in
+    rw (whole, part, share-append row i before after, share-drive row before i h)
+    (trace-append (share row i before) (share (hallAfter row before) i after) (at row i) [] ∙ trace-parts _ _ _)
 
 -- "a last tick that breaks that limb always finds its drive due", over every list of calls: the last of them is a hall tick that is carried
 -- out, its moment is the latest of the drive's trace, and where the sentence about waiting is broken there, the drive was due before it.
-pub share-finds-due : (row : List Drive) (cs : List Call) (i quota : ℕ) (sends : ℕ → Bool) (room : ℕ) → i < length row → at row i ≡ freshDrive
-    → allowedCalls row (cs ++ (tick quota sends room ∷ [])) ≡ true → callRefusal (length row) (tick quota sends room) ≡ 0
-    → (let d = at (hallAfter hallStep row cs) i in
-    let m = momentOf tickBytes (hallTicked (sends i) d) in
-    (shareTrace row i (cs ++ (tick quota sends room ∷ [])) ≡ m ∷ shareTrace row i cs)
+pub share-finds-due : (row : List Drive) (cs : List Call) (i quota room : ℕ) → i < length row → at row i ≡ freshDrive
+    → callRefusal (length row) (tick quota room) ≡ 0
+    → (let row′ = hallAfter row cs in
+    let d = at row′ i in
+    let m = momentOf tickBytes (hallTicked (sends quota row′ i) d) in
+    (shareTrace row i (cs ++ (tick quota room ∷ [])) ≡ m ∷ shareTrace row i cs)
     × ((Waiting m (shareTrace row i cs) → ⊥) → dueNow d ≡ true))
 unfolding turnsOf turnsIn sharedOut fitting traceOn outcomes
-share-finds-due row cs i quota sends room h fresh a c =
-    let n = length row in
-    let row′ = hallAfter hallStep row cs in
-    let last = tick quota sends room ∷ [] in
-    let size : length row′ ≡ n = hall-length hallStep row cs in
-    let both = allowed-parts cs last row a in
-    let given : share n i last ≡ hallTick (sends i) ∷ [] =
-    shared-append i (turnsOf n (tick quota sends room)) [] ∙ rw (c, tick-shared (λ x. hallTick (sends x)) n i h) in
-    let fit : fitting (at row′ i) (hallTick (sends i) ∷ []) ≡ true = rw (size, given) at (share-fits last row′ i (rw size h) (both .1)) in (
+share-finds-due row cs i quota room h fresh c =
+    let row′ = hallAfter row cs in
+    let last = tick quota room ∷ [] in
+    let size : length row′ ≡ length row = hall-length row cs in
+    let b : i < length row′ = rw size h in
+    let go = sends quota row′ in
+    let given : share row′ i last ≡ hallTick (go i) ∷ [] =
+    shared-append i (turnsOf row′ (tick quota room)) [] ∙ rw (size, c, ← size, tick-shared (λ x. hallTick (go x)) (length row′) i b) in
+    let fit : fitting (at row′ i) (hallTick (go i) ∷ []) ≡ true = rw given at (share-fits last row′ i b) in (
       share-grown row cs last i h ∙ rw given,
-      finds-due (at row′ i) (shareTrace row i cs) (share-good row cs i h fresh (both .0)) (sends i)
-          (and-left (implies (sends i) (dueNow (at row′ i))) _ fit),
+      finds-due (at row′ i) (shareTrace row i cs) (share-good row cs i h fresh) (go i) (and-left (implies (go i) (dueNow (at row′ i))) _ fit),
     )
 
--- The old sentence is not broken at as many hall ticks in a row as the row has drives, of a drive that was fresh at first
--- and not restarted between them: `Broken` has no accepted restart.
-pub waiting-bound : (row : List Drive) (before after : List Call) (i : ℕ) → i < length row → at row i ≡ freshDrive
-    → allowedCalls row (before ++ after) ≡ true
-    → (new : Trace) → shareTrace row i (before ++ after) ≡ new ++ shareTrace row i before → Broken (shareTrace row i before) new
-    → ticksIn new (shareTrace row i before) < length row
-waiting-bound row before after i h fresh a new e b =
-    let n = length row in
-    let t = shareTrace row i before in
-    let row′ = hallAfter hallStep row before in
-    let gs = share n i after in
-    let size : length row′ ≡ n = hall-length hallStep row before in
-    let both = allowed-parts before after row a in
-    let good = share-good row before i h fresh (both .0) in
-    let same : new ≡ grown (at row′ i) gs = append-cancel-right new (grown (at row′ i) gs) t (sym e ∙ share-grown row before after i h) in
-    let fit : fitting (at row′ i) gs ≡ true = rw size at (share-fits after row′ i (rw size h) (both .1)) in
-    let held = held-back gs (at row′ i) t good fit (rw same at b) in
-    cases (ltb (ticksIn new t) n)
-    (λ q. ltb-true _ n q)
-    (λ q.
-    let many : ticksIn new t ≡ ticksGiven gs = ap (λ (u : Trace). ticksIn u t) same ∙ held .count in
-    let enough : n ≤ ticksGiven gs = omega (arith, many, ltb-false (ticksIn new t) n q) in
-    let sent : sentAtOne gs ≡ true =
-    rw size at (sent-in-time row′ after i (rw size h) (good .wf) (both .1) (rw size enough) (rw size (held .isDue)) (rw size (held .unrestarted))) in
-    absurd (false≢true (sym (held .unsent) ∙ sent)))
+-- Of hall ticks in a row that each break the old sentence, the drive having been fresh at first and not restarted between them (`Broken` has
+-- no accepted restart), the quotas are together less than the number of drives.
+module _ (row : List Drive) (before after : List Call) (i : ℕ) (h : i < length row) (fresh : at row i ≡ freshDrive) (new : Trace)
+    (e : shareTrace row i (before ++ after) ≡ new ++ shareTrace row i before) (b : Broken (shareTrace row i before) new) where
+  abbrev t : Trace
+  t = shareTrace row i before
+
+  abbrev row′ : List Drive
+  row′ = hallAfter row before
+
+  abbrev gs : List Given
+  gs = share row′ i after
+
+  size : length row′ ≡ length row
+  size = hall-length row before
+
+  good : Good (at row′ i) t
+  good = share-good row before i h fresh
+
+  same : new ≡ grown (at row′ i) gs
+  same = append-cancel-right new (grown (at row′ i) gs) t (sym e ∙ share-grown row before after i h)
+
+  held : HeldBack (at row′ i) t gs
+  held = held-back gs (at row′ i) t good (share-fits after row′ i (rw size h)) (rw same at b)
+
+  pub quotas-bound : quotasIn (length row) after < length row
+  quotas-bound =
+      cases (ltb (quotasIn (length row) after) (length row))
+      (λ q. ltb-true _ _ q)
+      (λ q.
+      let enough : length row′ ≤ quotasIn (length row′) after = rw size (ltb-false _ _ q) in
+      let sent = sent-in-quotas row′ after i (rw size h) (good .wf) enough (held .isDue) (held .unrestarted) in
+      absurd (false≢true (sym (held .unsent) ∙ sent)))
+
+  -- W-204: so not at as many as the row has drives.
+  pub waiting-bound : ticksIn new t < length row
+  waiting-bound =
+      cases (ltb (ticksIn new t) (length row))
+      (λ q. ltb-true _ _ q)
+      (λ q.
+      let many : ticksIn new t ≡ ticksGiven gs = ap (λ (u : Trace). ticksIn u t) same ∙ held .count in
+      let enough : length row ≤ ticksGiven gs = omega (arith, many, ltb-false (ticksIn new t) (length row) q) in
+      let sent = sent-in-time row′ after i (rw size h) (good .wf) (omega (arith, enough, size)) (held .isDue) (held .unrestarted) in
+      absurd (false≢true (sym (held .unsent) ∙ sent)))

@@ -13,7 +13,7 @@ use Rattle.damper.specs.Carry.{outcomes, driveAfter}
 use Rattle.damper.specs.Closed.{computation}
 use Rattle.line.specs.Text.{text}
 use Rattle.line.specs.Line.{decimal, digitsWithin}
-use Rattle.hall.specs.Hall.{tickBytes}
+use Rattle.hall.specs.Turns.{tickBytes}
 use Rattle.shift.specs.Shift.{right, left, binary, driveLine, linesFrom, pageRefusal, pageAfter}
 
 -- the fresh drive after events of a kind with a, b and c, and a tick

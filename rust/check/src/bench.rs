@@ -39,14 +39,15 @@ fn sample(what: &str, n: usize) -> Vec<u8> {
 }
 
 /// For a count of instructions, by `proved`, `model`, `plain` or none of them: a replay of n records; or, as
-/// `hall`, `backup`, `list`, `page` or `bill`, hall ticks with quota 64, of any drives or of those that
-/// BackupValue rules, event calls, shift pages or bills for n drives, 64 in a call. Of `plain` there are no
-/// bills. As `flow`, n readings to a flow box, of which `model` is the plain one in Rust, by value.
+/// `hall`, `backup`, `all1`, `all8`, `all64`, `list`, `page` or `bill`, hall ticks with quota 64, of any
+/// drives or of those that BackupValue rules, hall ticks with quota 1, 8 or 64 at which all are due, event
+/// calls, shift pages or bills for n drives, 64 in a call. Of `plain` there are no bills. As `flow`, n
+/// readings to a flow box, of which `model` is the plain one in Rust, by value.
 pub fn spend(who: &str, what: &str, n: usize) {
     if what == "flow" {
         return spend_on_flow(who, n);
     }
-    if matches!(what, "hall" | "backup" | "list" | "page" | "bill") {
+    if matches!(what, "hall" | "backup" | "all1" | "all8" | "all64" | "list" | "page" | "bill") {
         return spend_on_halls(who, what, n);
     }
     let bytes = sample(what, n);
@@ -66,6 +67,11 @@ fn spend_on_halls(who: &str, what: &str, n: usize) {
     if what == "backup" {
         leave_to_backup(&mut rows);
     }
+    let all_due = what.strip_prefix("all");
+    if all_due.is_some() {
+        make_due(&mut rows, HALL_MOST);
+    }
+    let quota = all_due.map_or(HALL_MOST as u32, |quota| quota.parse().unwrap());
     let (mut numbers, mut answers, mut page) = ([0; HALL_MOST], [0; HALL_MOST], [0; HALL_MOST * LINE]);
     let hall: &dyn Hall = match who {
         "proved" => &Proved,
@@ -76,10 +82,10 @@ fn spend_on_halls(who: &str, what: &str, n: usize) {
     for i in 0..n / HALL_MOST {
         let row = rows.chunks_mut(HALL_MOST).nth(i % 4).unwrap();
         match what {
-            "hall" | "backup" => hall.tick(row, HALL_MOST as u32, &mut numbers),
+            "list" => hall.event(row, &list, &events[i % events.len()], &mut answers),
             "page" => hall.page(row, &mut page),
             "bill" => hall.bill(row, BILL - i as u64 % 1_000, &mut numbers),
-            _ => hall.event(row, &list, &events[i % events.len()], &mut answers),
+            _ => hall.tick(row, quota, &mut numbers),
         };
     }
     black_box((rows, numbers, answers, page));
@@ -247,16 +253,15 @@ fn same<T: PartialEq>(left: &[T; 3]) {
     assert!(left[0] == left[1] && left[1] == left[2], "the halls differ");
 }
 
-/// Drives of `lived` that are due at every tick, or at none of those between two beginnings.
-fn all_or_none_due(all: bool) -> Vec<Drive> {
-    let mut rows = lived(HALLS);
-    for drive in &mut rows {
-        let [min_rep_time, rep_per] = if all { [1, 1] } else { [3600, 7200] };
+/// So many of each 64 are due at every tick, the others at none of those between two beginnings.
+fn make_due(rows: &mut [Drive], due: usize) {
+    for (i, drive) in rows.iter_mut().enumerate() {
+        let is_due = i * due % HALL_MOST < due;
+        let [min_rep_time, rep_per] = if is_due { [1, 1] } else { [3600, 7200] };
         drive.params[Param::MinRepTime as usize] = min_rep_time;
         drive.params[Param::RepPer as usize] = rep_per;
         drive.since = 0;
     }
-    rows
 }
 
 /// BackupValue rules each drive, with each percent in turn.
@@ -267,27 +272,19 @@ fn leave_to_backup(rows: &mut [Drive]) {
     }
 }
 
-/// Hall ticks of 64. Which due drives go is free but for one, so how many each of the three sends may differ.
+/// Hall ticks of 64, and of 1.
 fn quotas() {
-    for all in [false, true] {
-        let first = all_or_none_due(all);
+    let mut first = lived(HALLS);
+    for (due, many) in [("none", 0), ("5", 5), ("all", HALL_MOST)] {
+        make_due(&mut first, many);
         for quota in [1, 8, 64] {
-            let what = format!("hall tick of 64, quota {quota}, {} due", if all { "all" } else { "none" });
-            let left = on_halls(&what, &first, HALL_MOST, 1, |hall, _, row, numbers: &mut [u32]| {
+            let what = format!("hall tick of 64, quota {quota}, {due} due");
+            same(&on_halls(&what, &first, HALL_MOST, 1, |hall, _, row, numbers| {
                 hall.tick(row, quota, numbers)
-            });
-            if all && quota > 1 {
-                let sent = left.each_ref().map(|(_, numbers)| {
-                    let reports = numbers.iter().filter(|&&number| number >= 65_536).count();
-                    format!("{:.1}", reports as f64 / HALLS as f64)
-                });
-                println!("  reports a hall tick: Rattle {}, Rust {}, plain C {}", sent[0], sent[1], sent[2]);
-            } else {
-                same(&left);
-            }
+            }));
         }
     }
-    let mut first = all_or_none_due(false);
+    make_due(&mut first, 0);
     leave_to_backup(&mut first);
     let what = "hall tick of 64, quota 64, none due, all by BackupValue";
     same(&on_halls(what, &first, HALL_MOST, 1, |hall, _, row, numbers| hall.tick(row, 64, numbers)));

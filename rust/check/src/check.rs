@@ -5,14 +5,14 @@
 //! The reading goes along with the list: for each kind it keeps the latest accepted event and how
 //! many accepted ticks came before it. Counts are differences of such numbers and have no cap.
 //!
-//! Of a drive in a hall its share of the calls is such a list, and document 02's W-204 says what takes the
-//! place of the waiting sentence there.
+//! Of a drive in a hall its share of the calls is such a list, and document 02's W-204 and W-210 say what
+//! takes the place of the waiting sentence there.
 
 use crate::table::{Param, TABLE};
 use damper::{Answer, Refusal, Status};
 use std::fmt;
 
-/// A part of demand 3, in its order, then refusals, then what W-204 adds for a drive in a hall.
+/// A part of demand 3, in its order, then refusals, then what W-204 and W-210 add for a drive in a hall.
 #[derive(Clone, Copy, PartialEq, Eq, Debug)]
 pub enum Clause {
     Spacing,
@@ -24,8 +24,12 @@ pub enum Clause {
     Refusal,
     /// "A well-formed drive is due when the fourth step of a tick would report", and no other one is sent.
     OnlyDue,
-    /// "A drive due at each of as many hall ticks in a row as the row has drives, and not restarted between
-    /// them, is sent at one of them"
+    /// W-204: "A drive due at each of as many hall ticks in a row as the row has drives, and not restarted
+    /// between them, is sent at one of them". W-210: "With one quota throughout, a drive that stays due and
+    /// isn't restarted is then sent within as many hall ticks as the number of drives divided by the quota,
+    /// rounded up." Both follow from what is asked here, with quotas that change too: a drive due at each of
+    /// some hall ticks in a row, and not restarted between them, is sent at one of them when their quotas add
+    /// up to the number of drives or more.
     Turn,
 }
 
@@ -323,6 +327,10 @@ pub struct Checker {
 #[derive(Default)]
 pub struct Turn {
     count: usize,
+    /// The quotas of these hall ticks: their sum, the least and the most.
+    sum: usize,
+    least: u32,
+    most: u32,
     /// A restart after the latest hall tick broke them off.
     broken_off: bool,
     /// An event was given to the drive between them, or a hall tick was refused there.
@@ -331,15 +339,20 @@ pub struct Turn {
 }
 
 impl Turn {
-    /// A hall tick; true if the drive should have been sent by now, the row having so many drives.
-    pub fn passed(&mut self, due: bool, sent: bool, drives: usize) -> bool {
+    /// A hall tick with this quota; true if the drive should have been sent by now, the row having so many
+    /// drives. A hall tick that holds a due drive sends as many others as its quota says, and none of them
+    /// goes again before that drive.
+    pub fn passed(&mut self, due: bool, sent: bool, quota: u32, drives: usize) -> bool {
         if due && !sent {
+            self.least = if self.count == 0 { quota } else { self.least.min(quota) };
+            self.most = self.most.max(quota);
             self.count += 1;
+            self.sum += quota as usize;
             self.broken_off = false;
         } else {
             *self = Turn::default();
         }
-        self.count >= drives
+        self.sum >= drives
     }
 
     /// An event was given to the drive.
@@ -358,6 +371,19 @@ impl Turn {
 
     pub fn count(&self) -> usize {
         self.count
+    }
+
+    /// The sum of the quotas.
+    pub fn quotas(&self) -> usize {
+        self.sum
+    }
+
+    pub fn least_quota(&self) -> u32 {
+        self.least
+    }
+
+    pub fn most_quota(&self) -> u32 {
+        self.most
     }
 
     pub fn is_broken_off(&self) -> bool {
@@ -437,15 +463,16 @@ impl Checker {
         breach
     }
 
-    /// The next hall tick of a share, in a row of so many drives: a number 1 or the report's position and
-    /// status, and the drive's position after it. `found_due` is whether the drive's record before the tick
-    /// says that it is due; all else, and whether it is due too, is read off the list.
+    /// The next hall tick of a share, with this quota and in a row of so many drives: a number 1 or the
+    /// report's position and status, and the drive's position after it. `found_due` is whether the drive's
+    /// record before the tick says that it is due; all else, and whether it is due too, is read off the list.
     pub fn hall_tick(
         &mut self,
         not_well_formed: bool,
         report: Option<(u8, u8)>,
         position: u8,
         found_due: bool,
+        quota: u32,
         drives: usize,
     ) -> Breach {
         let mut breach = Breach::default();
@@ -456,7 +483,7 @@ impl Checker {
         // "a last tick that breaks that limb always finds its drive due"
         breach.add(Clause::Waiting, self.waited_in_vain(status) && !(due && found_due));
         breach.add(Clause::OnlyDue, report.is_some() && !due);
-        breach.add(Clause::Turn, self.turn.passed(due, report.is_some(), drives));
+        breach.add(Clause::Turn, self.turn.passed(due, report.is_some(), quota, drives));
         self.moved(position, &mut breach);
         breach
     }

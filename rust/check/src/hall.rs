@@ -1,12 +1,13 @@
-//! The hall of document 02's W-201 with the quota of its W-204: drives in one row, worked on where they
-//! stand, each by the drive of `model`. The shift page is its W-203, its W-205 refuses a list that names a
-//! drive twice, and the bill of its W-208 is in `bill`.
+//! The hall of document 02's W-201 with the quota of its W-204, used as its W-210 says: drives in one row,
+//! worked on where they stand, each by the drive of `model`. The shift page is its W-203, its W-205 refuses a
+//! list that names a drive twice, and the bill of its W-208 is in `bill`.
 
 use crate::bill::{judge_bill, Portions};
 use crate::event::Event;
 use crate::model::{position_to_percent, Model};
 use crate::subject::Hall;
 use damper::{Answer, Drive, Rank, Status};
+use std::cmp::Reverse;
 use std::io::{self, Write};
 
 /// The most drives in a row, the most entries in a list, and the most reports of a hall tick.
@@ -35,14 +36,7 @@ impl Hall for HallModel {
     /// "One call ticks them all and fills one number per drive in such a row"; W-204: "The hall tick gets a
     /// quota, 1 to 64, and sends at most that many reports."
     fn tick(&self, row: &mut [Drive], quota: u32, numbers: &mut [u32]) -> u8 {
-        let refusal = judge_tick(row.len(), numbers.len(), quota);
-        if refusal != 0 {
-            return refusal;
-        }
-        let due = advance(row, numbers);
-        let sent = choose(row, due.drives, quota);
-        settle(row, numbers, &due, sent);
-        0
+        tick_choosing(row, quota, numbers, choose)
     }
 
     /// "a printed page, a line for each drive"; "Bytes after the last line keep their content."
@@ -82,6 +76,31 @@ pub fn numbers_of(mut drives: Drives) -> impl Iterator<Item = usize> {
     })
 }
 
+/// The due drives of a row of at most 64: "A well-formed drive is due when the fourth step of a tick would
+/// report."
+pub fn due(row: &[Drive]) -> Drives {
+    let is_due = |drive: &Drive| matches!(Model::advance(&mut drive.clone()), Ok(Some(_)));
+    row.iter().enumerate().fold(0, |due, (i, drive)| due | Drives::from(is_due(drive)) << i)
+}
+
+/// A hall tick that sends whom `choose` says, of the row, its due drives and the quota.
+#[inline(always)]
+pub(crate) fn tick_choosing(
+    row: &mut [Drive],
+    quota: u32,
+    numbers: &mut [u32],
+    choose: impl FnOnce(&[Drive], Drives, usize) -> Drives,
+) -> u8 {
+    let refusal = judge_tick(row.len(), numbers.len(), quota);
+    if refusal != 0 {
+        return refusal;
+    }
+    let due = advance(row, numbers);
+    let sent = choose(row, due.drives, quota as usize);
+    settle(row, numbers, &due, sent);
+    0
+}
+
 /// The due drives of a hall tick, and the status that each has to report.
 struct Due {
     drives: Drives,
@@ -110,28 +129,21 @@ fn advance(row: &mut [Drive], numbers: &mut [u32]) -> Due {
     due
 }
 
-/// "If any is due, the one that waited longest goes, lower number first among equals; which other due drives
-/// go is free": here the lowest, as far as the quota goes.
+/// W-210: "A hall tick must send exactly the smaller of the quota and the number due, longest wait first,
+/// lower number among equals." The waits are those from before the tick, which the due drives have still.
 #[inline(always)]
-fn choose(row: &[Drive], due: Drives, quota: u32) -> Drives {
-    let Some(longest) = longest(row, due) else { return 0 };
-    let mut sent = 1 << longest;
-    for i in numbers_of(due & !sent).take(quota as usize - 1) {
-        sent |= 1 << i;
+fn choose(row: &[Drive], due: Drives, quota: usize) -> Drives {
+    let many = due.count_ones() as usize;
+    if many <= quota {
+        return due;
     }
-    sent
-}
-
-/// "the one that waited longest .., lower number first among equals"
-#[inline(always)]
-fn longest(row: &[Drive], due: Drives) -> Option<usize> {
-    let mut longest = None;
-    for i in numbers_of(due) {
-        if longest.is_none_or(|other: usize| row[i].wait > row[other].wait) {
-            longest = Some(i);
-        }
+    let mut line = [(Reverse(0), 0); MOST];
+    for (place, i) in line.iter_mut().zip(numbers_of(due)) {
+        *place = (Reverse(row[i].wait), i);
     }
-    longest
+    // Brings the first of the line, as many as the quota, before the others.
+    line[..many].select_nth_unstable(quota - 1);
+    line[..quota].iter().fold(0, |sent, &(_, i)| sent | 1 << i)
 }
 
 /// Step 4 of the due drives that are sent; the others wait one hall tick more.
@@ -148,45 +160,6 @@ fn settle(row: &mut [Drive], numbers: &mut [u32], due: &Due, sent: Drives) {
             drive.wait = drive.wait.saturating_add(1);
         }
     }
-}
-
-/// What is to be said of a hall tick that has sent given drives.
-pub struct Ticked {
-    /// 0, or what refuses the hall tick; then no drive is due.
-    pub refusal: u8,
-    pub due: Drives,
-    /// Why no hall tick may send these and no others.
-    pub forbidden: Option<&'static str>,
-}
-
-/// A hall tick that sends these drives, as far as they are due.
-pub fn tick_sending(row: &mut [Drive], quota: u32, numbers: &mut [u32], sent: Drives) -> Ticked {
-    let (drives, places) = (row.len(), numbers.len());
-    let refusal = judge_tick(drives, places, quota);
-    if refusal != 0 {
-        return Ticked { refusal, due: 0, forbidden: None };
-    }
-    let all_due = advance(row, numbers);
-    let forbidden = forbidden(row, all_due.drives, quota, sent);
-    settle(row, numbers, &all_due, sent);
-    Ticked { refusal, due: all_due.drives, forbidden }
-}
-
-/// Why a hall tick may not send just these drives, the due ones having their wait still.
-fn forbidden(row: &[Drive], due: Drives, quota: u32, sent: Drives) -> Option<&'static str> {
-    if sent & !due != 0 {
-        return Some("a drive is sent that is not due");
-    }
-    if sent.count_ones() > quota {
-        return Some("more are sent than the quota");
-    }
-    // Drive i goes before drive j.
-    let before = |i: usize, j: usize| row[i].wait > row[j].wait || row[i].wait == row[j].wait && i <= j;
-    let first = numbers_of(due).find(|&i| numbers_of(due).all(|j| before(i, j)));
-    if first.is_some_and(|first| sent >> first & 1 == 0) {
-        return Some("the one that waited longest is not sent");
-    }
-    None
 }
 
 /// 0, or the first that fits an event call: "14 to 16 come before 1 to 13, in this order", and 19 is "checked

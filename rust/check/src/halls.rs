@@ -1,9 +1,7 @@
 //! Halls against the second implementation, over lists of calls: after each call its number, the whole row
-//! and the whole answer row or page are compared, with places before and behind each that were not lent.
-//! Which due drives a hall tick sends is free in part: those that the hall has sent have to be an allowed
-//! choice, and all else is compared with the second implementation's tick that sends just these. What a drive
-//! that was fresh at first got of the calls, its share, goes through the checker of demand 3, every drive has
-//! to get its turn, and the count of every drive has to be that of its moves.
+//! and the whole answer row or page are compared, with places before and behind each that were not lent. What
+//! a drive that was fresh at first got of the calls, its share, goes through the checker of demand 3, every
+//! drive has to get its turn, and the count of every drive has to be that of its moves.
 
 pub mod cover;
 pub mod gen;
@@ -12,7 +10,7 @@ pub mod wrong;
 use crate::check::{Breach, Checker, Clause, Turn};
 use crate::compare::{hex, shorten, Ask, Finding};
 use crate::event::Event;
-use crate::hall::{numbers_of, tick_sending, Drives, HallModel, LINE};
+use crate::hall::{due, numbers_of, Drives, HallModel, LINE};
 use crate::model::Model;
 use crate::settle::cover::Watch;
 use crate::settle::{self, Given};
@@ -63,15 +61,15 @@ impl Share {
         self.checker.heard(bytes, refusal, None, position)
     }
 
-    /// A hall tick's turn, in a row of so many drives.
-    fn tick(&mut self, number: u32, position: u8, found_due: bool, drives: usize) -> Breach {
+    /// A hall tick's turn, with this quota and in a row of so many drives.
+    fn tick(&mut self, number: u32, position: u8, found_due: bool, quota: u32, drives: usize) -> Breach {
         self.turns += 1;
         let (not_well_formed, report) = match HallTick::from_number(number) {
             Some(HallTick::NotWellFormed) => (true, None),
             Some(HallTick::Report { position, status }) => (false, Some((position, status.0))),
             _ => (false, None),
         };
-        self.checker.hall_tick(not_well_formed, report, position, found_due, drives)
+        self.checker.hall_tick(not_well_formed, report, position, found_due, quota, drives)
     }
 }
 
@@ -94,9 +92,14 @@ pub(crate) fn lent(places: usize) -> Range<usize> {
 }
 
 /// The drives that a hall tick has sent, by its numbers.
-fn sent(numbers: &[u32]) -> Drives {
+pub(crate) fn sent(numbers: &[u32]) -> Drives {
     let bits = numbers.iter().take(64).enumerate();
     bits.map(|(i, &number)| Drives::from(number >= 65_536) << i).fold(0, |sent, bit| sent | bit)
+}
+
+/// Whether a drive is among these; none beyond the 64th is.
+fn has(drives: Drives, i: usize) -> bool {
+    i < 64 && drives >> i & 1 == 1
 }
 
 /// The first answer that differs.
@@ -245,13 +248,16 @@ impl<'h, H: Hall + ?Sized> Pair<'h, H> {
         let (mut model, mut tested) = (odd.clone(), odd);
         let (before, row_before) = (self.asked_to_settle(), self.row().to_vec());
         let drives = self.drives;
-        let number = self.hall.tick(&mut self.tested[lent(drives)], quota, &mut tested[lent(places)]);
+        let (row, all) = (lent(drives), lent(places));
+        let expected = HallModel.tick(&mut self.model[row.clone()], quota, &mut model[all.clone()]);
+        let number = self.hall.tick(&mut self.tested[row], quota, &mut tested[all]);
         let filled = lent(places.min(drives));
-        let sent = if number == 0 { sent(&tested[filled.clone()]) } else { 0 };
-        let expected = tick_sending(&mut self.model[lent(drives)], quota, &mut model[lent(places)], sent);
+        let due = due(&row_before[..drives.min(64)]);
+        let sent_by = |number, numbers: &[u32]| if number == 0 { sent(&numbers[filled.clone()]) } else { 0 };
+        let (to_send, sent) = (sent_by(expected, &model), sent_by(number, &tested));
         if let Some(cover) = &mut cover {
             let after = (self.row(), &self.turns[..]);
-            cover.tick(&row_before, (quota, places), &expected, (&model[filled.clone()], sent), after);
+            cover.tick(&row_before, (quota, places), (expected, &model[filled.clone()]), due, after);
         }
         let mut given = [(Given::Nothing(true), false); 64];
         if number == 0 {
@@ -268,10 +274,9 @@ impl<'h, H: Hall + ?Sized> Pair<'h, H> {
         // "a hall call refused itself belongs to no share"
         if number != 0 {
             self.turns.iter_mut().for_each(Turn::tick_refused);
-        } else if expected.refusal == 0 {
+        } else {
             for (i, turn) in self.turns.iter_mut().enumerate() {
-                let (due, sent) = (expected.due >> i & 1 == 1, sent >> i & 1 == 1);
-                let passed = turn.passed(due, sent, drives);
+                let passed = turn.passed(has(due, i), has(sent, i), quota, drives);
                 breach.add(Clause::Turn, passed && asks_demand_3);
             }
         }
@@ -279,17 +284,16 @@ impl<'h, H: Hall + ?Sized> Pair<'h, H> {
             let (numbers, row) = (&tested[lent(places)], &self.tested[lent(drives)]);
             for (i, share) in self.shares.iter_mut().enumerate().take(places) {
                 if let Some(share) = share {
-                    let found_due = expected.due.checked_shr(i as u32).is_some_and(|due| due & 1 == 1);
-                    breach.join(share.tick(numbers[i], row[i].position, found_due, drives));
+                    breach.join(share.tick(numbers[i], row[i].position, has(due, i), quota, drives));
                 }
             }
         }
-        let forbidden = expected.forbidden.map(|why| {
-            let drives = |drives| numbers_of(drives).collect::<Vec<_>>();
-            format!("\n  {why}: due {:?}, sent {:?}", drives(expected.due), drives(sent))
+        let difference = answers_differ(&model, &tested).map(|text| {
+            let [due, to_send, sent] =
+                [due, to_send, sent].map(|drives| numbers_of(drives).collect::<Vec<_>>());
+            format!("{text}\n  due {due:?}\n  sent: model {to_send:?}, subject {sent:?}")
         });
-        let difference = forbidden.or_else(|| answers_differ(&model, &tested));
-        self.judge((expected.refusal, number), difference, breach, unsettled)
+        self.judge((expected, number), difference, breach, unsettled)
     }
 
     /// A page belongs to no share: it gives a drive nothing.
@@ -379,6 +383,7 @@ fn first_failure<H: Hall + ?Sized>(
                     cover.share(turn.count() > 0);
                 }
             }
+            cover.end_of_list();
             pair.watches.iter_mut().for_each(|watch| watch.end_of_list(&mut cover.settling));
         }
     }

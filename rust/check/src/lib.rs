@@ -1,10 +1,11 @@
 //! A second implementation of the damper drive of document 01, with document 02's hall (W-201), percents
-//! (W-202), shift page (W-203), quota (W-204), refusal of repeats (W-205), travel and bill (W-208), and of
-//! its flow box (W-209), written from the papers without sight of the proved code, and the runs that set
-//! another implementation (a `Subject`, a `Hall`, a `Flow`) against it. W-206 changes no answer: the model
-//! still divides, and what a multiplication can get wrong is drawn, counted and caught. Of the shift page,
-//! what the C header and the crate `damper` say to a host had been read too. The flow box and the claim about
-//! it were written from the papers alone; how a host numbers the kinds of readings is the crate `damper`'s.
+//! (W-202), shift page (W-203), quota (W-204) and whom it sends (W-210), refusal of repeats (W-205), travel
+//! and bill (W-208), and of its flow box (W-209), written from the papers without sight of the proved code,
+//! and the runs that set another implementation (a `Subject`, a `Hall`, a `Flow`) against it. W-206 changes
+//! no answer: the model still divides, and what a multiplication can get wrong is drawn, counted and caught.
+//! Of the shift page, what the C header and the crate `damper` say to a host had been read too. The flow box
+//! and the claim about it were written from the papers alone, and so was whom a hall tick sends, but that the
+//! waits from before the tick count was told; how a host numbers the kinds of readings is the crate `damper`'s.
 //!
 //! The second implementation is `table`, `event` and `model`, and `hall` and `bill` over them, which share
 //! with a host's crate `damper` the types of the drive record and of the answer, and no rule; and by itself

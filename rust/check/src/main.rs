@@ -3,10 +3,11 @@
 //! `damper-check compare EVENTS STEPS SEED` the same by hand, with these numbers and this seed alone.
 //! `damper-check bench PROGRAM` prints times, PROGRAM being the proved `drive`.
 //! `damper-check spend proved|model|plain|none mixed|ticks N` replays N records once, and
-//! `damper-check spend proved|model|plain|none hall|backup|list|page|bill N` ticks N drives in halls of 64,
-//! any or such as BackupValue rules, gives them events by lists, writes their shift pages, or shares bills
-//! out, for a count of instructions; `damper-check spend proved|model|none flow N` gives a flow box N
-//! readings, `model` being here the plain box in Rust, by value.
+//! `damper-check spend proved|model|plain|none hall|backup|all1|all8|all64|list|page|bill N` ticks N drives
+//! in halls of 64, any or such as BackupValue rules, with quota 64, or such as are all due, with quota 1, 8
+//! or 64, gives them events by lists, writes their shift pages, or shares bills out, for a count of
+//! instructions; `damper-check spend proved|model|none flow N` gives a flow box N readings, `model` being
+//! here the plain box in Rust, by value.
 //! `damper-check drive` is document 01's program `drive`.
 //! `damper-check gen N SEED` writes N mixed records of six bytes.
 

@@ -23,7 +23,8 @@ pub trait Hall {
     /// The bytes to the listed drives, a number for each entry: 0, 14, 15, 16 or 19.
     fn event(&self, row: &mut [Drive], list: &[u32], bytes: &[u8], answers: &mut [u8]) -> u8;
 
-    /// A tick to every drive with at most `quota` reports, a number for each drive: 0, 14, 16 or 18.
+    /// A tick to every drive, with `quota` reports or as many as are due, a number for each drive: 0, 14, 16
+    /// or 18.
     fn tick(&self, row: &mut [Drive], quota: u32, numbers: &mut [u32]) -> u8;
 
     /// A line for every drive: 0, 14 or 17.

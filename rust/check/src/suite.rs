@@ -22,8 +22,10 @@ const EVENTS: u64 = 20_000_000;
 const STEPS: u64 = 5_000_000;
 const LEAST_COUNT: u64 = 1_000;
 /// What the gate has to reach, where that is more.
-const LEAST: [(&str, u64); 6] = [
-    ("hall tick given", 1_000_000),
+const LEAST: [(&str, u64); 8] = [
+    ("hall call", 5_000_000),
+    ("hall tick given", 2_000_000),
+    ("hall tick with more due than the quota, above 1", 200_000),
     ("W-207 in steps: all", 500_000),
     ("W-207 in halls: all", 500_000),
     ("bill: all", 1_000_000),
@@ -35,7 +37,7 @@ const LEAST: [(&str, u64); 6] = [
 const REPLAYS: u32 = 20_000;
 /// Events on lists for each hall call, for each record that is audited, for each bill, for each reading to a
 /// single flow box, and for each list of readings.
-const EVENTS_A_CALL: u64 = 8;
+const EVENTS_A_CALL: u64 = 4;
 const EVENTS_AN_AUDIT: u64 = 4;
 const EVENTS_A_BILL: u64 = 40;
 const EVENTS_A_READING: u64 = 2;
@@ -64,6 +66,8 @@ pub fn gate() -> bool {
     for (name, count) in &low {
         println!("met too seldom: {name}: {count}");
     }
+    let counted = |name: &str| counts.iter().any(|(counted, _)| counted == name);
+    assert!(LEAST.iter().all(|(name, _)| counted(name)), "a least count of what is not counted");
     let (name, count) = counts.iter().min_by_key(|(_, count)| *count).expect("counts");
     println!("{} cases met, the least often {name}: {count}", counts.len());
     verdict(passed && low.is_empty())

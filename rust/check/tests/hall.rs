@@ -1,18 +1,21 @@
-//! The hall of document 02's W-201, the shift page of its W-203, the quota of its W-204 and the lists that
-//! its W-205 refuses: their corners by hand, on the proved hall and on the second implementation.
+//! The hall of document 02's W-201, the shift page of its W-203, the quota of its W-204, whom a hall tick
+//! sends by its W-210 and the lists that its W-205 refuses: their corners by hand, on the proved hall and on
+//! the second implementation.
 
 use damper::{Answer, Commands, Drive, Last, Rank, Run};
 use damper_check::check::{Checker, Clause, Turn};
 use damper_check::gen::Gen;
-use damper_check::hall::{numbers_of, tick_sending, Drives, HallModel, LINE};
-use damper_check::halls::cover::HallCover;
-use damper_check::halls::halls;
+use damper_check::hall::{due, HallModel, LINE};
 use damper_check::model::Model;
+use damper_check::plain::Plain;
 use damper_check::proved::Proved;
 use damper_check::subject::{Hall, Subject};
 use damper_check::table::Param;
 
 const BOTH: [&dyn Hall; 2] = [&Proved, &HallModel];
+/// With the plain C hall of the benchmark.
+const THREE: [(&str, &dyn Hall); 3] =
+    [("second implementation", &HallModel), ("plain C", &Plain), ("proved", &Proved)];
 
 const TICK: [u8; 6] = [0x5A, 0xC3, 1, 0, 0, 0];
 const SETPOINT: [u8; 6] = [0x5A, 0xC3, 2, 200, 0, 0];
@@ -212,11 +215,11 @@ fn refused_calls_belong_to_no_share() {
         assert!(with_repeat.heard(&CALIBRATION, None, None, row[0].position).none());
         assert_eq!(hall.tick(&mut row, 1, &mut []), 16);
         assert_eq!(hall.tick(&mut row, 0, &mut [0]), 18);
-        assert!(with_refused.hall_tick(false, None, row[0].position, false, 1).has(Clause::Move));
+        assert!(with_refused.hall_tick(false, None, row[0].position, false, 1, 1).has(Clause::Move));
 
         assert_eq!(hall.tick(&mut row, 1, &mut [0]), 0);
-        assert!(share.hall_tick(false, None, row[0].position, false, 1).none());
-        assert!(with_repeat.hall_tick(false, None, row[0].position, false, 1).has(Clause::Move));
+        assert!(share.hall_tick(false, None, row[0].position, false, 1, 1).none());
+        assert!(with_repeat.hall_tick(false, None, row[0].position, false, 1, 1).has(Clause::Move));
     }
 }
 
@@ -263,45 +266,150 @@ fn quotas_of_1_to_64() {
             }
         }
         for quota in 1..=64 {
-            let mut row = [waiting(0); 64];
-            let sent = sent(hall, &mut row, quota);
-            assert!(sent.contains(&0) && sent.len() <= quota as usize, "{quota}");
+            assert!(sent(hall, &mut [waiting(0); 64], quota).into_iter().eq(0..quota as usize));
         }
     }
 }
 
-/// "the one that waited longest goes, lower number first among equals"; with quota 1 no other.
+/// A hall tick of drives that are all due and have waited so long sends just these; the waits of the others
+/// rise by one.
+fn sends(before: &[u16], quota: u32, goes: &[usize]) {
+    for (name, hall) in THREE {
+        let mut row: Vec<_> = before.iter().map(|&wait| waiting(wait)).collect();
+        assert_eq!(sent(hall, &mut row, quota), goes, "{name}: {before:?}, quota {quota}");
+        let mut after: Vec<_> = before.iter().map(|wait| wait.saturating_add(1)).collect();
+        goes.iter().for_each(|&i| after[i] = 0);
+        assert_eq!(waits(&row), after, "{name}: {before:?}, quota {quota}");
+    }
+}
+
+/// W-204: "the one that waited longest goes, lower number first among equals"; with quota 1 no other.
 #[test]
 fn the_one_that_waited_longest() {
-    let rows: [(&[u16], usize); 9] = [
-        (&[0, 0, 0], 0),
-        (&[0, 1, 0], 1),
-        (&[1, 3, 3, 2], 1),
-        (&[3, 2, 3], 0),
-        (&[0, 255, 256], 2),
-        (&[32_767, 32_768], 1),
-        (&[65_534, 65_535], 1),
-        (&[65_534, 65_535, 65_535], 1),
-        (&[65_535, 65_535], 0),
-    ];
-    for hall in BOTH {
-        for (before, goes) in rows {
-            let mut row: Vec<_> = before.iter().map(|&wait| waiting(wait)).collect();
-            assert_eq!(sent(hall, &mut row, 1), [goes], "{before:?}");
-            let mut after: Vec<_> = before.iter().map(|wait| wait.saturating_add(1)).collect();
-            after[goes] = 0;
-            assert_eq!(waits(&row), after, "{before:?}");
+    sends(&[0, 0, 0], 1, &[0]);
+    sends(&[0, 1, 0], 1, &[1]);
+    sends(&[1, 3, 3, 2], 1, &[1]);
+    sends(&[3, 2, 3], 1, &[0]);
+    sends(&[0, 255, 256], 1, &[2]);
+    sends(&[32_767, 32_768], 1, &[1]);
+    sends(&[65_534, 65_535], 1, &[1]);
+    sends(&[65_534, 65_535, 65_535], 1, &[1]);
+    sends(&[65_535, 65_535], 1, &[0]);
+}
 
-            let mut row: Vec<_> = before.iter().map(|&wait| waiting(wait)).collect();
-            assert!(sent(hall, &mut row, 2).contains(&goes), "{before:?}");
+/// W-210: "exactly the smaller of the quota and the number due, longest wait first, lower number among
+/// equals"
+#[test]
+fn the_whole_quota() {
+    sends(&[0, 0, 0], 2, &[0, 1]);
+    sends(&[0, 0, 0], 3, &[0, 1, 2]);
+    sends(&[0, 0, 0], 4, &[0, 1, 2]);
+    sends(&[0, 0, 0], 64, &[0, 1, 2]);
+    sends(&[9], 1, &[0]);
+    sends(&[9], 64, &[0]);
+    // The others are not the lowest, and the lowest is not among those that go.
+    sends(&[0, 1, 2, 3], 2, &[2, 3]);
+    sends(&[3, 0, 1, 2], 2, &[0, 3]);
+    sends(&[0, 3, 1, 2], 3, &[1, 2, 3]);
+    // Equal waits where the line is divided, and elsewhere.
+    sends(&[1, 3, 3, 2], 2, &[1, 2]);
+    sends(&[1, 3, 3, 2], 3, &[1, 2, 3]);
+    sends(&[2, 1, 2, 1, 2], 2, &[0, 2]);
+    sends(&[2, 1, 2, 1, 2], 4, &[0, 1, 2, 4]);
+    sends(&[7, 0, 7, 0, 7, 0], 4, &[0, 1, 2, 4]);
+    sends(&[0, 7, 0, 7, 0, 7], 5, &[0, 1, 2, 3, 5]);
+    sends(&[5, 5, 5, 5, 5], 3, &[0, 1, 2]);
+    // All 16 bits count.
+    sends(&[255, 0, 256, 1], 2, &[0, 2]);
+    sends(&[0, 32_767, 1, 32_768, 32_766], 2, &[1, 3]);
+    sends(&[65_280, 65_535, 255], 2, &[0, 1]);
+    // At 65,535 on both sides, and one below it, from before the tick.
+    sends(&[65_535, 65_535, 65_535, 65_535], 2, &[0, 1]);
+    sends(&[65_534, 65_535, 65_534, 65_535, 65_535], 3, &[1, 3, 4]);
+    sends(&[65_534, 65_534, 65_535, 65_535, 65_535], 4, &[0, 2, 3, 4]);
+    sends(&[65_533, 65_534, 65_535], 2, &[1, 2]);
+    // "With quota 8 the line often carries one report and seven drives sit waiting."
+    sends(&[0; 8], 8, &[0, 1, 2, 3, 4, 5, 6, 7]);
+    sends(&[1, 1, 1, 1, 0, 1, 1, 1, 1], 8, &[0, 1, 2, 3, 5, 6, 7, 8]);
+    let mut waits = [4; 64];
+    waits[63] = 5;
+    waits[31] = 3;
+    sends(&waits, 1, &[63]);
+    sends(&waits, 63, &(0..64).filter(|&i| i != 31).collect::<Vec<_>>());
+    sends(&waits, 64, &(0..64).collect::<Vec<_>>());
+}
+
+/// Since is not looked at, nor is the wait of a drive that is not due or not well formed, and such a drive
+/// has no place of the quota.
+#[test]
+fn the_due_drives_alone() {
+    let not_due = Drive { wait: 9, ..Model.fresh() };
+    let broken = Drive { wait: 9, ..broken() };
+    for (name, hall) in THREE {
+        let mut row = [Drive { since: 500, ..waiting(1) }, waiting(2), Drive { since: 400, ..waiting(3) }];
+        assert_eq!(sent(hall, &mut row, 1), [2], "{name}");
+        assert_eq!(sent(hall, &mut row, 2), [0, 1], "{name}");
+
+        let first = [not_due, waiting(1), broken, waiting(0), waiting(0), not_due];
+        for (quota, goes) in [(1, &[1][..]), (2, &[1, 3]), (3, &[1, 3, 4]), (4, &[1, 3, 4]), (6, &[1, 3, 4])]
+        {
+            let mut row = first;
+            assert_eq!(sent(hall, &mut row, quota), goes, "{name}");
+            let left = |i: usize| if goes.contains(&i) { 0 } else { first[i].wait + 1 };
+            assert_eq!(waits(&row), [0, left(1), 9, left(3), left(4), 0], "{name}");
         }
-        // Its since is not looked at.
-        let mut row = [Drive { since: 500, ..waiting(1) }, waiting(2)];
-        assert_eq!(sent(hall, &mut row, 1), [1]);
-        // Nor is the wait of a drive that is not due or not well formed.
-        let mut row = [Drive { wait: 9, ..Model.fresh() }, waiting(1), Drive { wait: 9, ..broken() }];
-        assert_eq!(sent(hall, &mut row, 1), [1]);
-        assert_eq!(waits(&row), [0, 0, 9]);
+        // None is due.
+        let mut row = [not_due, broken, not_due];
+        assert_eq!(sent(hall, &mut row, 3), [0; 0], "{name}");
+        assert_eq!(waits(&row), [0, 9, 0], "{name}");
+    }
+}
+
+/// One that waited 65,534 is held beside a higher number that waited 65,535, and goes before it at the next
+/// hall tick: the wait stops there.
+#[test]
+fn caught_up_at_65_535() {
+    for (name, hall) in THREE {
+        let mut row = [65_534, 65_535, 65_535].map(waiting);
+        assert_eq!(sent(hall, &mut row, 1), [1], "{name}");
+        assert_eq!(waits(&row), [65_535, 0, 65_535], "{name}");
+        assert_eq!(sent(hall, &mut row, 1), [0], "{name}");
+        assert_eq!(sent(hall, &mut row, 1), [2], "{name}");
+        let mut row = [65_534, 65_535, 65_535, 65_535, 0].map(waiting);
+        assert_eq!(sent(hall, &mut row, 2), [1, 2], "{name}");
+        assert_eq!(sent(hall, &mut row, 1), [0], "{name}");
+        assert_eq!(sent(hall, &mut row, 2), [3, 4], "{name}");
+    }
+}
+
+/// Every row of one to four drives, each due with a wait of 0, 1, 65,534 or 65,535, not due or not well
+/// formed, with every quota up to 5: a due drive goes if fewer due drives than the quota go before it.
+#[test]
+fn every_small_row() {
+    let drives = [0, 1, 65_534, 65_535].map(waiting);
+    let others = [Drive { wait: 65_535, ..Model.fresh() }, Drive { wait: 65_535, ..broken() }];
+    let kinds = [&drives[..], &others].concat();
+    let before = |(i, one): (usize, &Drive), (j, other): (usize, &Drive)| {
+        one.wait > other.wait || one.wait == other.wait && i < j
+    };
+    for length in 1..=4 {
+        for code in 0..kinds.len().pow(length) {
+            let kind = |place| kinds[code / kinds.len().pow(place) % kinds.len()];
+            let first: Vec<_> = (0..length).map(kind).collect();
+            let due = due(&first);
+            let all_due: Vec<_> = first.iter().enumerate().filter(|(i, _)| due >> i & 1 == 1).collect();
+            for quota in 1..=5 {
+                let earlier = |drive| all_due.iter().filter(|other| before(**other, drive)).count();
+                let goes = all_due.iter().filter(|drive| earlier(**drive) < quota).map(|(i, _)| *i);
+                let goes: Vec<_> = goes.collect();
+                assert_eq!(goes.len(), quota.min(all_due.len()));
+                for (name, hall) in THREE {
+                    let mut row = first.clone();
+                    let sent = sent(hall, &mut row, quota as u32);
+                    assert_eq!(sent, goes, "{name}: {:?}, due {due:b}, quota {quota}", waits(&first));
+                }
+            }
+        }
     }
 }
 
@@ -366,45 +474,90 @@ fn what_changes_the_wait() {
     }
 }
 
-/// With quota 1 and all drives due always, each goes once in as many hall ticks as there are drives, whatever
-/// the waits were at first.
+/// With one quota throughout and all drives due always, each goes "within as many hall ticks as the number of
+/// drives divided by the quota, rounded up", and not all before, whatever the waits were at first.
 #[test]
 fn each_has_its_turn() {
     let mut gen = Gen::new(5);
-    for hall in BOTH {
-        for drives in 1..=64 {
+    for (name, hall) in THREE {
+        for drives in 1..=64_usize {
+            for quota in 1..=64 {
+                let mut row: Vec<_> = (0..drives).map(|_| waiting(gen.wait())).collect();
+                let ticks = drives.div_ceil(quota);
+                let went: Vec<_> = (0..ticks).map(|_| sent(hall, &mut row, quota as u32)).collect();
+                assert!(went.iter().all(|sent| sent.len() == quota.min(drives)), "{name}");
+                let mut before: Vec<_> = went[..ticks - 1].concat();
+                before.sort();
+                before.dedup();
+                assert_eq!(before.len(), (ticks - 1) * quota, "{name}: {drives} by {quota}");
+                let last = went[ticks - 1].iter().filter(|i| before.binary_search(i).is_err()).count();
+                assert_eq!(before.len() + last, drives, "{name}: {drives} by {quota}");
+            }
+            // By quota 1 they stand in line from now on.
             let mut row: Vec<_> = (0..drives).map(|_| waiting(gen.wait())).collect();
-            let mut went: Vec<_> = (0..drives).flat_map(|_| sent(hall, &mut row, 1)).collect();
-            went.sort();
-            assert!(went.into_iter().eq(0..drives));
+            (0..drives).for_each(|_| assert_eq!(sent(hall, &mut row, 1).len(), 1));
             let again: Vec<_> = (0..drives).flat_map(|_| sent(hall, &mut row, 1)).collect();
             let waited: Vec<_> = row.iter().map(|drive| usize::from(drive.wait)).collect();
-            assert!((0..drives).all(|turn| waited[again[turn]] == drives - 1 - turn));
+            assert!((0..drives).all(|turn| waited[again[turn]] == drives - 1 - turn), "{name}");
         }
     }
+}
+
+/// With quotas that change, some drives not due at times: the quotas of hall ticks in a row that find a drive
+/// due and hold it stay below the number of drives.
+#[test]
+fn turns_by_changing_quotas() {
+    let mut gen = Gen::new(8);
+    let mut most = 0;
+    for (name, hall) in THREE {
+        for _ in 0..3_000 {
+            let drives = 1 + gen.rng.below(12) as usize;
+            let mut row: Vec<_> = (0..drives).map(|_| waiting(gen.wait())).collect();
+            let mut quotas = vec![0; drives];
+            for _ in 0..12 {
+                for drive in &mut row {
+                    drive.params[Param::MinRepTime as usize] = if gen.rng.once_in(8) { 3600 } else { 1 };
+                }
+                let (due, quota) = (due(&row), 1 + gen.rng.below(5) as usize);
+                let sent = sent(hall, &mut row, quota as u32);
+                assert_eq!(sent.len(), quota.min(due.count_ones() as usize), "{name}");
+                for (i, quotas) in quotas.iter_mut().enumerate() {
+                    let held = due >> i & 1 == 1 && !sent.contains(&i);
+                    *quotas = if held { *quotas + quota } else { 0 };
+                    assert!(*quotas < drives, "{name}: drive {i} of {drives}");
+                    most += usize::from(*quotas + 1 == drives && drives > 1);
+                }
+            }
+        }
+    }
+    assert!(most > 1_000, "{most}");
 }
 
 /// A held drive breaks the waiting sentence of a drive by itself, and nothing that a hall promises as long as
 /// it is due and has its turn.
 #[test]
 fn a_share_that_waits() {
-    let ticks = |drives: usize, found_due: bool| {
+    let ticks = |quota: u32, drives: usize, found_due: bool| {
         let (mut alone, mut share) = (Checker::from_fresh(), Checker::from_fresh());
         assert!(alone.heard(&MIN_REP_TIME_1, None, None, 0).none());
         assert!(share.heard(&MIN_REP_TIME_1, None, None, 0).none());
         assert!(alone.heard(&TICK, None, None, 0).has(Clause::Waiting));
-        share.hall_tick(false, None, 0, found_due, drives)
+        share.hall_tick(false, None, 0, found_due, quota, drives)
     };
-    assert!(ticks(2, true).none());
-    assert!(ticks(1, true).has(Clause::Turn) && !ticks(1, true).has(Clause::Waiting));
-    assert!(ticks(2, false).has(Clause::Waiting));
+    assert!(ticks(1, 2, true).none() && ticks(7, 8, true).none() && ticks(63, 64, true).none());
+    for (quota, drives) in [(1, 1), (2, 2), (2, 1), (8, 8), (64, 64), (64, 63)] {
+        let breach = ticks(quota, drives, true);
+        assert!(breach.has(Clause::Turn) && !breach.has(Clause::Waiting));
+    }
+    assert!(ticks(1, 2, false).has(Clause::Waiting));
 
-    // Due at the tenth tick, held there, at the eleventh and the twelfth.
-    let held = |restart_after: Option<usize>| {
+    // Due at the tenth tick, held there and at all further ones.
+    let held_by = |quotas: [u32; 3], drives: usize, restart_after: Option<usize>| {
         let mut share = Checker::from_fresh();
         let mut found = Vec::new();
         for tick in 1..=12 {
-            let breach = share.hall_tick(false, None, 0, tick >= 10, 3);
+            let quota = if tick < 10 { 64 } else { quotas[tick - 10] };
+            let breach = share.hall_tick(false, None, 0, tick >= 10, quota, drives);
             found.push(breach.has(Clause::Turn));
             if restart_after == Some(tick) {
                 assert!(share.heard(&RESTART, None, None, 0).none());
@@ -412,13 +565,26 @@ fn a_share_that_waits() {
         }
         found.iter().position(|&found| found).map(|at| at + 1)
     };
+    let held = |restart_after| held_by([1; 3], 3, restart_after);
     assert_eq!(held(None), Some(12));
     assert_eq!(held(Some(9)), None);
     assert_eq!(held(Some(11)), None);
+    // One quota: 5 drives by 2 are 3 hall ticks, 4 by 2 are 2, 6 by 2 are 3, 7 by 2 are 4.
+    assert_eq!(
+        [4, 5, 6, 7].map(|drives| held_by([2; 3], drives, None)),
+        [Some(11), Some(12), Some(12), None]
+    );
+    // Quotas that change.
+    assert_eq!(held_by([1, 8, 1], 9, None), Some(11));
+    assert_eq!(held_by([1, 8, 1], 10, None), Some(12));
+    assert_eq!(held_by([1, 8, 1], 11, None), None);
+    assert_eq!(held_by([8, 1, 55], 64, None), Some(12));
+    assert_eq!(held_by([8, 1, 54], 64, None), None);
+    assert_eq!(held_by([8, 1, 55], 64, Some(10)), None);
 
     // A report where none is due.
     let mut share = Checker::from_fresh();
-    assert!(share.hall_tick(false, Some((0, 32)), 0, false, 3).has(Clause::OnlyDue));
+    assert!(share.hall_tick(false, Some((0, 32)), 0, false, 1, 3).has(Clause::OnlyDue));
 }
 
 /// In a hall of one a drive is sent when it is due and at no other tick, so that what the checker reads off
@@ -435,7 +601,7 @@ fn due_off_the_list() {
             let breach = match answer {
                 Answer::Tick { position, report, .. } => {
                     let report = report.map(|status| (position, status.0));
-                    share.hall_tick(false, report, record.position, report.is_some(), 1)
+                    share.hall_tick(false, report, record.position, report.is_some(), 1, 1)
                 }
                 answer => share.event(bytes.as_slice(), &answer, record.position),
             };
@@ -444,16 +610,34 @@ fn due_off_the_list() {
     }
 }
 
-/// "A drive due at each of as many hall ticks in a row as the row has drives, and not restarted between them,
-/// is sent at one of them", by a search through the whole list for each hall tick.
+/// A hall tick of one drive: whether it was due and sent, how many restarts came before, and the quota.
+#[derive(Clone, Copy, Debug)]
+struct Ticked {
+    due: bool,
+    sent: bool,
+    restarts: u32,
+    quota: u32,
+}
+
+/// Due at each of these hall ticks, not restarted between them, and sent at none of them.
+fn held_throughout(ticks: &[Ticked]) -> bool {
+    ticks.iter().all(|tick| tick.due && !tick.sent && tick.restarts == ticks[0].restarts)
+}
+
+/// The quotas of hall ticks in a row add up to the number of drives, by a search through the whole list for
+/// each hall tick. What W-204 and W-210 say follows: "A drive due at each of as many hall ticks in a row as
+/// the row has drives, and not restarted between them, is sent at one of them"; "With one quota throughout, a
+/// drive that stays due and isn't restarted is then sent within as many hall ticks as the number of drives
+/// divided by the quota, rounded up."
 #[test]
 fn turns_by_a_search() {
     let mut gen = Gen::new(7);
-    for _ in 0..2_000 {
-        let drives = 1 + gen.rng.below(5) as usize;
+    let (mut found, mut found_204, mut found_210, mut neither) = (0, 0, 0, 0);
+    for _ in 0..6_000 {
+        let drives = 1 + gen.rng.below(7) as usize;
+        let quotas = gen.rng.pick(&[[1, 1], [2, 2], [3, 3], [1, 2], [1, 4], [2, 5]]);
         let mut turn = Turn::default();
-        // Due, sent, and how many restarts came before.
-        let mut ticks: Vec<(bool, bool, u32)> = Vec::new();
+        let mut ticks: Vec<Ticked> = Vec::new();
         let mut restarts = 0;
         for _ in 0..60 {
             match gen.rng.below(12) {
@@ -462,79 +646,30 @@ fn turns_by_a_search() {
                     turn.event(true);
                 }
                 1 => turn.event(false),
+                2 => turn.tick_refused(),
                 _ => {
-                    let due = !gen.rng.once_in(5);
-                    let sent = due && gen.rng.once_in(4);
-                    ticks.push((due, sent, restarts));
-                    let broken = ticks.len().checked_sub(drives).is_some_and(|first| {
-                        let row = &ticks[first..];
-                        row.iter().all(|&(due, sent, before)| due && !sent && before == row[0].2)
+                    let due = !gen.rng.once_in(7);
+                    let (sent, quota) = (due && gen.rng.once_in(4), gen.rng.pick(&quotas));
+                    ticks.push(Ticked { due, sent, restarts, quota });
+                    let rows = (0..ticks.len()).map(|first| &ticks[first..]);
+                    let sum = |row: &[Ticked]| row.iter().map(|tick| tick.quota as usize).sum::<usize>();
+                    let broken = rows.clone().any(|row| sum(row) >= drives && held_throughout(row));
+                    let by_204 = rows.clone().any(|row| row.len() >= drives && held_throughout(row));
+                    let by_210 = rows.clone().any(|row| {
+                        let one_quota = row.iter().all(|tick| tick.quota == quota);
+                        one_quota && row.len() >= drives.div_ceil(quota as usize) && held_throughout(row)
                     });
-                    assert_eq!(turn.passed(due, sent, drives), broken, "{drives}, {ticks:?}");
+                    assert_eq!(turn.passed(due, sent, quota, drives), broken, "{drives}, {ticks:?}");
+                    assert!(broken || !by_204 && !by_210, "{drives}, {ticks:?}");
+                    found += u32::from(broken);
+                    found_204 += u32::from(by_204);
+                    found_210 += u32::from(by_210);
+                    neither += u32::from(broken && !by_204 && !by_210);
                 }
             }
         }
     }
-}
-
-/// Of the row before a hall tick, its due drives and the quota, the drives to send.
-type Choice = fn(&[Drive], Drives, u32) -> Drives;
-
-/// A hall of the second implementation that chooses otherwise.
-struct Choosing(Choice);
-
-impl Hall for Choosing {
-    fn event(&self, row: &mut [Drive], list: &[u32], bytes: &[u8], answers: &mut [u8]) -> u8 {
-        HallModel.event(row, list, bytes, answers)
-    }
-
-    fn tick(&self, row: &mut [Drive], quota: u32, numbers: &mut [u32]) -> u8 {
-        let (mut copy, mut places) = (row.to_vec(), vec![0; numbers.len()]);
-        let due = tick_sending(&mut copy, quota, &mut places, 0).due;
-        tick_sending(row, quota, numbers, (self.0)(row, due, quota)).refusal
-    }
-
-    fn page(&self, row: &[Drive], page: &mut [u8]) -> u8 {
-        HallModel.page(row, page)
-    }
-
-    fn bill(&self, row: &[Drive], bill: u64, shares: &mut [u32]) -> u8 {
-        HallModel.bill(row, bill, shares)
-    }
-}
-
-/// Due drives, the longest waiting first, lower numbers first among equals.
-fn by_wait(row: &[Drive], due: Drives) -> Vec<usize> {
-    let mut order: Vec<_> = numbers_of(due).collect();
-    order.sort_by_key(|&i| std::cmp::Reverse(row[i].wait));
-    order
-}
-
-fn set(numbers: impl IntoIterator<Item = usize>) -> Drives {
-    numbers.into_iter().fold(0, |set, i| set | 1 << i)
-}
-
-/// "which other due drives go is free"
-#[test]
-fn the_choice_of_the_others_is_free() {
-    let choices: [Choice; 4] = [
-        |row, due, _| set(by_wait(row, due).into_iter().take(1)),
-        |row, due, quota| set(by_wait(row, due).into_iter().take(quota as usize)),
-        |row, due, quota| {
-            let order = by_wait(row, due);
-            let others = order.iter().skip(1).rev().copied().take((quota as usize).saturating_sub(1));
-            set(order.iter().copied().take(1).chain(others))
-        },
-        |row, due, quota| {
-            let order = by_wait(row, due);
-            let others = order.iter().skip(1).copied().filter(|i| row[*i].since % 2 == 0);
-            set(order.iter().copied().take(1).chain(others.take((quota as usize).saturating_sub(1))))
-        },
-    ];
-    for choice in choices {
-        let compared = halls(&Choosing(choice), 3, 30_000, &mut HallCover::default());
-        assert!(compared.map_err(|finding| panic!("{finding}")).is_ok());
-    }
+    assert!(found > 1_000 && found_204 > 1_000 && found_210 > found_204 && neither > 1_000);
 }
 
 /// The bytes of a record: what is not named is a fresh drive's.

@@ -211,7 +211,7 @@ fn backed_up(position: u8, percent: u8, reports: bool) -> Drive {
 }
 
 /// Each percent as BackupValue, from each end: in a row of one, which has to be sent, and in rows of which
-/// none is due, so that nothing is free.
+/// none is due.
 #[test]
 fn every_percent_by_a_hall_tick() {
     for from in [0, 255] {

@@ -27,6 +27,6 @@ fn replay() {
 
 #[test]
 fn hall_calls() {
-    let compared = halls(&Plain, 3, 100_000, &mut HallCover::default());
+    let compared = halls(&Plain, 3, 500_000, &mut HallCover::default());
     assert!(compared.map_err(|finding| panic!("{finding}")).is_ok());
 }

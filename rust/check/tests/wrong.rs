@@ -21,7 +21,7 @@ fn wrong_drives_are_caught() {
 #[test]
 fn wrong_halls_are_caught() {
     for wrong in wrong_halls::ALL {
-        assert!(wrong.caught(1, 60_000).is_some(), "{}", wrong.name);
+        assert!(wrong.caught(1, 200_000).is_some(), "{}", wrong.name);
     }
 }
 
@@ -84,8 +84,23 @@ fn shares_break_demand_3() {
         ("RefusedEventGiven", Clause::Move),
         ("TwiceAfterGiving", Clause::Move),
         ("PositionAndStatusExchanged", Clause::Content),
-        ("LowestGoes", Clause::Turn),
+        ("OneUnderQuota", Clause::Turn),
+        ("OneLessIfEqual", Clause::Turn),
+        ("OneSent", Clause::Turn),
         ("NothingSent", Clause::Turn),
+        ("HalfOfQuota", Clause::Turn),
+        ("NewcomersHeld", Clause::Turn),
+        ("EqualsAllHeld", Clause::Turn),
+        ("NeverAll64", Clause::Turn),
+        ("BrokenTakePlaces", Clause::Turn),
+        ("BrokenLessenQuota", Clause::Turn),
+        ("LowestGo", Clause::Turn),
+        ("OthersByNumber", Clause::Turn),
+        ("LowestAndByWait", Clause::Turn),
+        ("ShortestFirst", Clause::Turn),
+        ("HighestGo", Clause::Turn),
+        ("WaitSigned", Clause::Turn),
+        ("WaitWraps", Clause::Turn),
         ("HeldNotCounted", Clause::Turn),
         ("SentKeepsWait", Clause::Turn),
         ("NotDueSent", Clause::OnlyDue),
@@ -94,6 +109,17 @@ fn shares_break_demand_3() {
     ] {
         let found = |seed| Wrong::named(name).broken(seed, 60_000);
         assert!((1..30).filter_map(found).any(|breach| breach.has(clause)), "{name}");
+    }
+}
+
+/// These keep every drive's turn: only the comparison finds them.
+#[test]
+fn wrong_halls_that_keep_the_turns() {
+    for name in ["OneOverQuota", "AllSent", "LongestBySince", "WaitRisen", "TiesToHigher", "NotDueKeepsWait"]
+    {
+        for seed in 1..5 {
+            assert!(Wrong::named(name).broken(seed, 60_000).is_none(), "{name}");
+        }
     }
 }
 

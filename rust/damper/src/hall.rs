@@ -1,5 +1,5 @@
 //! A hall: 1 to 64 drives in one row, worked on where they stand. Document 02, W-201; the shift page is its
-//! W-203, the quota its W-204, that no list names a drive twice its W-205, and the bill its W-208.
+//! W-203, the quota its W-204 and W-210, that no list names a drive twice its W-205, and the bill its W-208.
 
 use crate::{exported, Drive, Refusal, Status};
 use core::error::Error;
@@ -50,14 +50,19 @@ pub fn hall_event(
     refused_or_done(exported::hall_event(row, list, bytes, answers))
 }
 
-/// Ticks every drive of the row and sends at most `quota`, 1 to [`HALL_QUOTA`], of the reports that are due,
-/// which are those that ticks given to the drives alone would send.
+/// Ticks every drive of the row and sends `quota`, 1 to [`HALL_QUOTA`], of the reports that are due, or all if
+/// they are fewer. Due are those that ticks given to the drives alone would send.
 ///
-/// If any is due, the drive that waited longest is sent, of several the one with the lower number; which
-/// others are sent is not promised. One that is due and not sent moves as at any tick, keeps its last report,
-/// and its [`Drive::wait`] rises by one; sent or not due, it has wait 0. A drive that is due at each of as
-/// many hall ticks in a row as the row has drives, and is not restarted between them, is sent at one of
-/// these, provided that nobody else writes the row and its length stays the same.
+/// Of the due drives those with the larger [`Drive::wait`] before the call are sent first, of equal ones those
+/// with the lower number; drives that are not due, or not well formed, take no place of the quota. One that is
+/// due and not sent is held: it moves as at any tick, keeps its last report, and its wait rises by one; sent,
+/// or well formed and not due, it has wait 0. What is held and no longer due at the next hall tick is not told
+/// of: a drive that is due at every second hall tick may never be sent.
+///
+/// A drive that is due at each of some consecutive hall ticks, and is not restarted between them, is sent at
+/// one of these if their quotas add up to the number of drives or more: with one quota throughout, within as
+/// many hall ticks as the number of drives divided by the quota, rounded up. (Between them only [`hall_event`]
+/// changes the row, and its length stays the same. A record that is put back brings its wait with it.)
 ///
 /// What the tick of drive i gave is the number `numbers[i]`, which [`HallTick::from_number`] reads; further
 /// places keep their content. A call that is refused itself touches nothing.
@@ -363,6 +368,22 @@ mod tests {
         assert_eq!(ticked(64, 257, 64), Err(HallRefusal::Quota));
         assert_eq!(ticked(64, 1, 64), Ok(()));
         assert_eq!(ticked(64, HALL_QUOTA, 64), Ok(()));
+    }
+
+    /// As many as the quota, the longest wait first and the lower number among equals.
+    #[test]
+    fn whole_quota() {
+        let mut drive = Drive::fresh();
+        drive.give(Event::WriteParameter(Parameter::MinRepTime, 1));
+        drive.give(Event::WriteParameter(Parameter::RepPer, 1));
+        let (mut row, mut numbers) = ([drive; 5], [0; 5]);
+        for (quota, sent) in [(2, "##---"), (2, "--##-"), (2, "#---#"), (3, "-###-"), (64, "#####")] {
+            assert_eq!(hall_tick(&mut row, quota, &mut numbers), Ok(()));
+            for ((drive, number), sent) in row.iter().zip(numbers).zip(sent.chars()) {
+                let report = matches!(HallTick::from_number(number), Some(HallTick::Report { .. }));
+                assert_eq!((report, drive.wait == 0), (sent == '#', sent == '#'));
+            }
+        }
     }
 
     /// The calls are the single events, drive by drive.

@@ -43,7 +43,7 @@ returns-2 c =
     let l = c .before .loop in
     let a = c .before .before .args in
     let end : l .high ≡ l .low = omega arith in
-    let one = count-one (keyIn (a .lows .now) (a .highs .now)) (a .drives) (l .low) (c .before .before .pre .once) in
+    let one = count-one (keyIn (a .lows .now) (a .highs .now)) (a .drives) (l .low) (λ i j k m e f. c .before .before .pre .once i j k m (e ∙ sym f)) in
     omega (arith, one, l .inv .1, rw end at (l .inv .2))
 
 pub bisected-spec : {M : Type 1} → statement M

@@ -7,12 +7,12 @@ use native.Mathlib.Omega.{arith}
 use lib.Dec.{eqb}
 use borrow.Author.Tests.{le-leb, lt-leb, eqb-true, eqb-false}
 use Rattle.numbers.specs.Laws.{cases}
-use Rattle.choice.specs.Sent.{sentBy}
+use Rattle.choice.specs.Sent.{reportAt}
 use Rattle.choice.proofs.next_sent.Statement.{statement}
 use Rattle.choice.proofs.next_sent.Tie as tie
 
 abbrev Inv-loop : tie.InvT-loop
-Inv-loop numbers from drives i₀ i = (from ≤ i) × (i ≤ drives) × ((j : ℕ) → from ≤ j → j < i → sentBy numbers j ≡ false)
+Inv-loop numbers from drives i₀ i = (from ≤ i) × (i ≤ drives) × ((j : ℕ) → from ≤ j → j < i → reportAt numbers j ≡ false)
 
 abbrev μ-loop : tie.MeasureT-loop
 μ-loop numbers from drives i₀ i = drives - i
@@ -40,7 +40,7 @@ loop-less c = search needs
 loop-again : tie.Need-loop-again Inv-loop μ-loop
 loop-again c =
     let l = c .before .before .before .loop in
-    let here : sentBy (c .before .before .before .before .args .numbers .now) (l .i) ≡ false = lt-leb _ _ (c .if1 .left) in (
+    let here : reportAt (c .before .before .before .before .args .numbers .now) (l .i) ≡ false = lt-leb _ _ (c .if1 .left) in (
       search needs,
       search needs,
       λ j a b. cases (eqb j (l .i)) (λ e. rw (eqb-true j (l .i) e) here) (λ e. let n = eqb-false j (l .i) e in l .inv .2 j a (omega arith)),

@@ -55,8 +55,8 @@ use Rattle.damper.specs.Record.{freshDrive}
 use Rattle.damper.specs.Step.{stepOf}
 use Rattle.damper.proofs.Drive as T
 use Rattle.damper.proofs.Drive.Laws as T′
-use Rattle.hall.specs.Hall.{Call, give, callRefusal, Turn, turnsOf, at, rowAfter, answersAfter}
-use Rattle.hall.specs.Quota.{hallStep}
+use Rattle.hall.specs.Hall.{Call, give, callRefusal, at}
+use Rattle.hall.specs.Turns.{Turn, turnsOf, rowAfter, answersAfter, hallStep}
 use Rattle.hall.specs.Laws.{Turns, give-turns, turns-most, row-length, rowBy, answersBy, row-start, answers-start, row-by-length, answers-by-length, row-turn, answers-turn, row-end, answers-end, answers-end-length}
 use Rattle.hall_event.specs.declared.Given.{Given as Given′}
 use Rattle.hall_event.proofs.Given as O
@@ -169,7 +169,7 @@ module _ {M : Type 1} (𝓤 : URA M) (H : Heap 𝓤) (A : Atoms 𝓤) (W : Given
   call′ = give xs bs (length cs)
 
   abbrev ts : List Turn
-  ts = turnsOf (length ys) call′
+  ts = turnsOf ys call′
 
   abbrev zs₀ : List Drive
   zs₀ = rowAfter hallStep ys ts
@@ -403,7 +403,7 @@ module _ {M : Type 1} (𝓤 : URA M) (H : Heap 𝓤) (A : Atoms 𝓤) (W : Given
         split ! $ move ! (1 ∷ []) $ peeks ! usize (Is usize) (shows 𝓤 H A usize) n (v′ ∷ []) (λ is-n.
         land ! (from ! (stop !)) (init ! 32 refl (uint-lawful 𝓤 H A W w64 .typed n _ is-n .0)) $ rewrite ! 32 (λ (u : Val). ‵ (fat fullShare (tyInt w64) l₆ 0 u)) (ap only (is-n .0)) refl $ drop ! $
         drop ! $
-        let w : Turned-by n = give-turns (length ys) (length cs) bs xs n (counts ∙ ap (λ (j : ℕ). pick′ (eqb j 0) (length xs) 0) judged) in
+        let w : Turned-by n = give-turns ys (length cs) bs xs n (counts ∙ ap (λ (j : ℕ). pick′ (eqb j 0) (length xs) 0) judged) in
         let listed : n ≤ length xs = subst (λ (j : ℕ). j ≤ length xs) (sym counts) (turns-most (eqb m 0) (length xs)) in
         assigns ! (of-opd ! (lit ! tt)) (from ! (stop !)) (init ! 28 refl (tt, record { fits = lit< tt })) $
         move ! (7 ∷ []) $ fsplit ! $ drop ! $ fsplit ! $ move ! (0 ∷ 1 ∷ 7 ∷ []) $ opens-slice ! tt R ys b₀ o₀ $

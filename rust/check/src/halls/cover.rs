@@ -2,13 +2,14 @@
 
 use crate::check::Turn;
 use crate::event::Event;
-use crate::hall::{numbers_of, Drives, Ticked, LINE};
+use crate::hall::{numbers_of, Drives, LINE};
+use crate::halls::sent;
 use crate::percents::Percents;
 use crate::settle::cover::SettleCover;
 use crate::table::Param;
 use crate::travel::{TravelCover, CAP};
 use damper::{Drive, HallTick};
-use std::cmp::Ordering;
+use std::cmp::{Ordering, Reverse};
 
 macro_rules! counters {
     ($($name:ident: $text:literal,)*) => {
@@ -17,6 +18,8 @@ macro_rules! counters {
             /// At index n, answers n to an entry of a list.
             answers: [u64; 14],
             $($name: u64,)*
+            /// The quotas of the present list's hall ticks.
+            quotas: Vec<u32>,
             /// BackupValue where a hall tick by backup ends.
             backup: Percents,
             lines: Lines,
@@ -39,6 +42,7 @@ macro_rules! counters {
 }
 
 counters! {
+    calls: "hall call",
     event_14: "event call refused by 14",
     event_15: "event call refused by 15",
     event_16: "event call refused by 16",
@@ -106,21 +110,37 @@ counters! {
     ticked: "hall tick given",
     quota_1: "hall tick with quota 1 given",
     quota_64: "hall tick with quota 64 given",
+    quota_over_drives: "hall tick with a quota above the number of drives, any due",
     none_due: "hall tick with none due",
     one_due: "hall tick with one due",
     all_due: "hall tick with all of two or more due",
+    all_64_due: "hall tick with 64 due and quota 64",
+    all_but_one: "hall tick with 64 due and quota 63",
     due_over_quota: "hall tick with more due than the quota",
-    due_as_quota: "hall tick with as many due as the quota",
+    due_as_quota: "hall tick with as many due as the quota, above 1",
     due_below_quota: "hall tick with fewer due than the quota",
-    tie: "hall tick with two longest waits above 0, not all due sent",
-    tie_at_0: "hall tick with two or more due, all waits 0, not all due sent",
-    longest_not_lowest: "hall tick whose longest waiting is not the lowest due",
-    longest_not_due: "hall tick with a longer wait of a drive not due",
-    longest_broken: "hall tick with a longer wait of a drive not well formed",
-    longest_younger: "hall tick with a due drive of shorter wait and longer since than the longest waiting",
-    longest_at_cap: "hall tick with longest wait 65,535 behind a due 65,534",
+    over_above_1: "hall tick with more due than the quota, above 1",
+    over_by_one: "hall tick with one more due than the quota, above 1",
+    one_tie_at_0: "quota 1: the one that goes and the first held have wait 0",
+    one_tie: "quota 1: the one that goes and the first held have equal waits above 0",
+    one_tie_at_cap: "quota 1: the one that goes and the first held have wait 65,535",
+    one_below_cap: "quota 1: 65,535 goes, a lower number with 65,534 is held",
+    tie_at_0: "quota above 1: the last that goes and the first held have wait 0",
+    tie: "quota above 1: the last that goes and the first held have equal waits above 0",
+    tie_at_cap: "quota above 1: the last that goes and the first held have wait 65,535",
+    below_cap: "quota above 1: the last that goes has 65,535, the first held 65,534 and a lower number",
+    ties_split: "quota above 1: two or more of one wait go, two or more of it are held",
+    one_apart: "quota above 1: the last that goes has waited one longer than the first held, a lower number",
+    lower_held: "quota above 1: a drive goes that is not the first, and a lower number is held",
+    lowest_held: "quota above 1: the lowest due is held",
+    since_longer: "a drive is held whose since is longer than that of one that waited longer and goes",
+    longer_not_due: "a drive not due waited longer than the last that goes, others are held",
+    longer_broken: "a drive not well formed waited longer than the last that goes, others are held",
+    caught_up: "two are held that waited 65,534 and 65,535, the first having the lower number",
     sent: "due drive sent",
     held: "due drive held",
+    sent_63: "drive 63 sent while others are held",
+    held_63: "drive 63 held",
     held_again: "due drive held at two hall ticks in a row",
     due_by_this_tick: "drive due by this tick, since too low before",
     wait_at_cap: "wait staying at 65,535",
@@ -133,9 +153,22 @@ counters! {
     wait_of_refused: "wait above 0 kept at a refused event",
     restart_refused: "wait above 0 kept at a refused restart",
     restart_between: "drive restarted between two hall ticks, the first of which held it",
-    last_turn: "drive sent at the last hall tick possible, in a row of two or more",
-    last_turn_events: "the same with an event to it in between",
-    last_turn_refused: "the same with a refused hall tick in between",
+    last_turn: "last turn: drive held and then sent at the last hall tick that the quotas leave",
+    last_turn_of_1s: "last turn: with quota 1 throughout",
+    last_turn_one_quota: "last turn: with one quota above 1 throughout",
+    last_turn_thrice: "last turn: with one quota above 1 throughout, held at two hall ticks or more",
+    last_turn_rounded_up: "last turn: with one quota above 1 that does not divide the number of drives",
+    last_turn_changed: "last turn: with quotas that changed in between",
+    last_turn_all_changed: "last turn: with quotas above 1 that changed in between",
+    last_turn_exact: "last turn: with quotas that changed and add up to just the number of drives",
+    last_turn_at_cap: "last turn: with a quota above 1 and a wait of 65,535",
+    last_turn_events: "last turn: with an event to it in between",
+    last_turn_refused: "last turn: with a refused hall tick in between",
+    all_others: "drive held until the quotas add up to all others, in a row of two or more",
+    all_others_above_1: "drive held until quotas above 1 add up to all others",
+    list_of_1s: "list of two or more hall ticks with quota 1 throughout",
+    list_of_one_quota: "list of two or more hall ticks with one quota above 1 throughout",
+    list_of_quotas: "list of hall ticks with quotas that change",
     shares: "share of a fresh drive, checked",
     shares_held: "share of a fresh drive, held at its last hall tick",
     move_sent: "travel in halls: a move of a drive that is sent counted",
@@ -344,17 +377,17 @@ impl HallCover {
         add(&mut self.twice_row_of_1, drives == 1);
     }
 
-    /// A hall tick on a row: what it was refused by or 0 and which drives were due, its numbers, which drives
-    /// were sent, the row after it, and the turns before it.
+    /// A hall tick on a row: what it was refused by or 0 and its numbers, which drives were due, the row
+    /// after it, and the turns before it.
     pub fn tick(
         &mut self,
         row: &[Drive],
         (quota, places): (u32, usize),
-        ticked: &Ticked,
-        (numbers, sent): (&[u32], Drives),
+        (refusal, numbers): (u8, &[u32]),
+        due: Drives,
         (after, turns): (&[Drive], &[Turn]),
     ) {
-        let (drives, refusal) = (row.len(), ticked.refusal);
+        let drives = row.len();
         let fits = (!(1..=64).contains(&drives), places < drives, !(1..=64).contains(&quota));
         self.row(drives, refusal);
         add(&mut self.tick_14, refusal == 14);
@@ -382,26 +415,50 @@ impl HallCover {
         self.silent += silent as u64;
         self.report += (drives - broken - silent) as u64;
         add(&mut self.mixed_row, broken > 0 && broken < drives);
-        self.choice(row, quota, ticked.due, numbers, sent);
-        self.waits(row, ticked.due, numbers, sent);
-        self.travels((row, after), ticked.due, numbers, sent);
+        let sent = sent(numbers);
+        self.quotas.push(quota);
+        self.choice(row, quota, due, numbers);
+        self.waits(row, due, numbers, sent);
+        self.travels((row, after), due, numbers, sent);
         for (i, drive) in row.iter().enumerate().filter(|(i, _)| numbers[*i] != 1) {
             self.backup.tick(drive, after[i].position);
         }
-        for i in numbers_of(ticked.due) {
-            let (goes, before) = (sent >> i & 1 == 1, turns[i].count());
-            add(&mut self.held_again, !goes && before > 0);
-            add(&mut self.restart_between, !goes && turns[i].is_broken_off());
-            if goes && drives > 1 && before + 1 == drives {
-                self.last_turn += 1;
-                add(&mut self.last_turn_events, turns[i].has_event());
-                add(&mut self.last_turn_refused, turns[i].has_refused_tick());
-            }
+        add(&mut self.sent_63, sent >> 63 == 1 && sent != due);
+        add(&mut self.held_63, (due & !sent) >> 63 == 1);
+        for i in numbers_of(due) {
+            self.turn(&turns[i], quota, drives, sent >> i & 1 == 1, row[i].wait);
         }
     }
 
-    /// Who is due, and who of them goes.
-    fn choice(&mut self, row: &[Drive], quota: u32, due: Drives, numbers: &[u32], sent: Drives) {
+    /// A due drive's turn before a hall tick, and whether it goes.
+    fn turn(&mut self, turn: &Turn, quota: u32, drives: usize, goes: bool, wait: u16) {
+        let held = turn.count() > 0;
+        let (least, most) =
+            if held { (quota.min(turn.least_quota()), quota.max(turn.most_quota())) } else { (quota, quota) };
+        let quotas = turn.quotas() + quota as usize;
+        if !goes {
+            add(&mut self.held_again, held);
+            add(&mut self.restart_between, turn.is_broken_off());
+            add(&mut self.all_others, drives > 1 && quotas + 1 == drives);
+            add(&mut self.all_others_above_1, least > 1 && quotas + 1 == drives);
+        } else if held && quotas >= drives {
+            let one_above_1 = least == most && least > 1;
+            self.last_turn += 1;
+            add(&mut self.last_turn_of_1s, most == 1);
+            add(&mut self.last_turn_one_quota, one_above_1);
+            add(&mut self.last_turn_thrice, one_above_1 && turn.count() > 1);
+            add(&mut self.last_turn_rounded_up, one_above_1 && drives % quota as usize != 0);
+            add(&mut self.last_turn_changed, least != most);
+            add(&mut self.last_turn_all_changed, least != most && least > 1);
+            add(&mut self.last_turn_exact, least != most && quotas == drives);
+            add(&mut self.last_turn_at_cap, most > 1 && wait == u16::MAX);
+            add(&mut self.last_turn_events, turn.has_event());
+            add(&mut self.last_turn_refused, turn.has_refused_tick());
+        }
+    }
+
+    /// Who is due, and how many that is.
+    fn choice(&mut self, row: &[Drive], quota: u32, due: Drives, numbers: &[u32]) {
         self.ticked += 1;
         let many = due.count_ones();
         add(&mut self.quota_1, quota == 1);
@@ -409,30 +466,61 @@ impl HallCover {
         add(&mut self.none_due, many == 0);
         add(&mut self.one_due, many == 1);
         add(&mut self.all_due, many > 1 && many as usize == row.len());
+        add(&mut self.all_64_due, many == 64 && quota == 64);
+        add(&mut self.all_but_one, many == 64 && quota == 63);
         if many == 0 {
             return;
         }
+        add(&mut self.quota_over_drives, quota as usize > row.len());
         match many.cmp(&quota) {
             Ordering::Less => self.due_below_quota += 1,
-            Ordering::Equal => self.due_as_quota += 1,
-            Ordering::Greater => self.due_over_quota += 1,
+            Ordering::Equal => add(&mut self.due_as_quota, quota > 1),
+            Ordering::Greater => self.line(row, quota as usize, due, numbers),
         }
-        let wait = numbers_of(due).map(|i| row[i].wait).max().unwrap_or(0);
-        let longest: Vec<_> = numbers_of(due).filter(|&i| row[i].wait == wait).collect();
-        let not_all = sent != due;
-        add(&mut self.tie, longest.len() > 1 && wait > 0 && not_all);
-        add(&mut self.tie_at_0, longest.len() > 1 && wait == 0 && not_all);
-        add(&mut self.longest_not_lowest, longest[0] > due.trailing_zeros() as usize);
-        let longer = |number: u32| {
-            let others = row.iter().zip(numbers).enumerate().filter(|(i, _)| due >> i & 1 == 0);
-            others.into_iter().any(|(_, (drive, &is))| is == number && drive.wait > wait)
+    }
+
+    /// More are due than the quota: the line of the due drives, and where it is divided.
+    fn line(&mut self, row: &[Drive], quota: usize, due: Drives, numbers: &[u32]) {
+        self.due_over_quota += 1;
+        let wait = |i: usize| row[i].wait;
+        let mut line: Vec<_> = numbers_of(due).collect();
+        line.sort_by_key(|&i| (Reverse(wait(i)), i));
+        let (go, held) = line.split_at(quota);
+        let (last, next) = (go[quota - 1], held[0]);
+        let (longer, shorter) = (wait(last), wait(next));
+        let (tie, below_cap) = (longer == shorter, (shorter, longer) == (u16::MAX - 1, u16::MAX));
+        if quota == 1 {
+            add(&mut self.one_tie_at_0, tie && longer == 0);
+            add(&mut self.one_tie, tie && longer > 0);
+            add(&mut self.one_tie_at_cap, tie && longer == u16::MAX);
+            add(&mut self.one_below_cap, below_cap && next < last);
+        } else {
+            self.over_above_1 += 1;
+            add(&mut self.over_by_one, held.len() == 1);
+            add(&mut self.tie_at_0, tie && longer == 0);
+            add(&mut self.tie, tie && longer > 0);
+            add(&mut self.tie_at_cap, tie && longer == u16::MAX);
+            add(&mut self.below_cap, below_cap && next < last);
+            let alike = |drives: &[usize]| drives.iter().filter(|&&i| wait(i) == longer).count();
+            add(&mut self.ties_split, alike(go) > 1 && alike(held) > 1);
+            add(&mut self.one_apart, longer == shorter.saturating_add(1) && next < last);
+            let lowest = due.trailing_zeros() as usize;
+            let lowest_held = held.iter().min();
+            add(&mut self.lower_held, go[1..].iter().max() > lowest_held);
+            add(&mut self.lowest_held, lowest_held == Some(&lowest));
+        }
+        let overtakes = |i: usize, j: usize| wait(i) < wait(j) && row[i].since > row[j].since;
+        add(&mut self.since_longer, held.iter().any(|&i| go.iter().any(|&j| overtakes(i, j))));
+        let waited_longer = |number: u32| {
+            let others = (0..row.len()).filter(|&i| due >> i & 1 == 0 && numbers[i] == number);
+            others.into_iter().any(|i| wait(i) > longer)
         };
-        add(&mut self.longest_not_due, longer(0));
-        add(&mut self.longest_broken, longer(1));
-        let younger = |i: usize| row[i].wait < wait && row[i].since > row[longest[0]].since;
-        add(&mut self.longest_younger, numbers_of(due).any(younger));
-        let just_below = |i: usize| i < longest[0] && row[i].wait == u16::MAX - 1;
-        add(&mut self.longest_at_cap, wait == u16::MAX && numbers_of(due).any(just_below));
+        add(&mut self.longer_not_due, waited_longer(HallTick::Silent.to_number()));
+        add(&mut self.longer_broken, waited_longer(HallTick::NotWellFormed.to_number()));
+        // The wait of the lower number rises, and that of the other stays: equal from now on.
+        let at_cap = held.iter().filter(|&&i| wait(i) == u16::MAX).max();
+        let catches_up = |i: usize| wait(i) == u16::MAX - 1 && Some(&i) < at_cap;
+        add(&mut self.caught_up, held.iter().any(|&i| catches_up(i)));
     }
 
     /// What a hall tick makes of the waits.
@@ -497,7 +585,9 @@ impl HallCover {
         add(&mut self.mixed_page, well_formed > 0 && well_formed < drives);
     }
 
+    /// A call, by its row.
     fn row(&mut self, drives: usize, refusal: u8) {
+        self.calls += 1;
         match drives {
             0 => self.row_of_0 += 1,
             1 => add(&mut self.row_of_1, refusal == 0),
@@ -506,6 +596,16 @@ impl HallCover {
             256.. => self.row_of_256 += 1,
             _ => {}
         }
+    }
+
+    /// The end of a hall's life.
+    pub fn end_of_list(&mut self) {
+        let (least, most) = (self.quotas.iter().min(), self.quotas.iter().max());
+        let (many, one_quota) = (self.quotas.len() > 1, least == most);
+        add(&mut self.list_of_1s, many && one_quota && most == Some(&1));
+        add(&mut self.list_of_one_quota, many && one_quota && most > Some(&1));
+        add(&mut self.list_of_quotas, !one_quota);
+        self.quotas.clear();
     }
 
     /// A share that a hall's life brought to the checker of demand 3; whether its drive is held at the end.

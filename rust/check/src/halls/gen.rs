@@ -23,17 +23,29 @@ pub struct HallGen {
     opening: Vec<Bytes>,
     /// Nearly all drives are due at every tick, and most calls are ticks.
     busy: bool,
-    /// Most ticks have this quota; 0 for any.
-    quota: u32,
+    /// Most ticks have one of these quotas; 0 for any up to the number of drives.
+    quotas: [u32; 2],
+    /// Other ticks do not come, but for those that 18 refuses.
+    no_others: bool,
 }
 
 impl HallGen {
     pub fn new(seed: u64) -> HallGen {
-        HallGen { gen: Gen::new(seed), burst: 0, opening: Vec::new(), busy: false, quota: 0 }
+        HallGen {
+            gen: Gen::new(seed),
+            burst: 0,
+            opening: Vec::new(),
+            busy: false,
+            quotas: [0; 2],
+            no_others: false,
+        }
     }
 
     /// The row of a hall, at times one that 14 refuses, and how many calls it lives through.
     pub fn hall(&mut self) -> (Vec<Drive>, u32) {
+        if self.gen.rng.once_in(2) {
+            return self.lined_up();
+        }
         self.burst = 0;
         let rng = &mut self.gen.rng;
         let drives = match rng.below(64) {
@@ -67,13 +79,71 @@ impl HallGen {
         (row, calls)
     }
 
-    /// How busy a hall is, its usual quota, and waits of which many are equal.
+    /// A row of two or more, most of them due with waits of which many are equal, for some ticks.
+    fn lined_up(&mut self) -> (Vec<Drive>, u32) {
+        let rng = &mut self.gen.rng;
+        let drives = match rng.below(6) {
+            0 | 1 => 2 + rng.below(4),
+            2 | 3 => 2 + rng.below(63),
+            4 => 61 + rng.below(4),
+            _ => 64,
+        };
+        let calls = 2 + rng.below(14);
+        let (least, most) = self.waits();
+        let not_well_formed = self.gen.rng.pick(&[2, 8, 1_000]);
+        let not_due = self.gen.rng.pick(&[2, 8, 1_000, 1_000]);
+        let drive = |_| {
+            let mut drive = self.gen.record();
+            if self.gen.rng.once_in(not_well_formed) {
+                drive = self.gen.any_record().1;
+            }
+            drive.wait = self.gen.rng.between(least, most);
+            if !self.gen.rng.once_in(not_due) {
+                drive.params[Param::MinRepTime as usize] = 1;
+                drive.params[Param::RepPer as usize] = 1;
+            }
+            drive
+        };
+        let mut row: Vec<_> = (0..drives).map(drive).collect();
+        self.opening.clear();
+        self.busy = true;
+        self.draw_quotas(drives);
+        self.burst = calls;
+        if self.gen.rng.once_in(2) {
+            self.divide(&mut row);
+        }
+        (row, calls)
+    }
+
+    /// As many as a quota have waited one hall tick longer than the others.
+    fn divide(&mut self, row: &mut [Drive]) {
+        let longer = self.gen.rng.pick(&[1, 2, 256, 32_768, u16::MAX, u16::MAX]);
+        row.iter_mut().for_each(|drive| drive.wait = longer - 1);
+        for number in self.once_each(row.len() as u32).into_iter().take(self.quotas[0] as usize) {
+            row[number as usize].wait = longer;
+        }
+    }
+
+    /// From the least to the most of a row's waits.
+    fn waits(&mut self) -> (u16, u16) {
+        self.gen.rng.pick(&[(0, 2), (5, 5), (0, 65_535), (65_533, 65_535), (65_534, 65_535)])
+    }
+
+    fn draw_quotas(&mut self, drives: u32) {
+        self.quotas = [self.usual_quota(drives); 2];
+        if self.gen.rng.once_in(3) {
+            self.quotas[1] = self.usual_quota(drives);
+        }
+        self.no_others = self.gen.rng.once_in(2);
+    }
+
+    /// How busy a hall is, its usual quotas, and waits of which many are equal.
     fn mood(&mut self, row: &mut [Drive]) {
         self.opening.clear();
         self.busy = self.gen.rng.once_in(3);
-        self.quota = self.gen.rng.pick(&[1, 1, 1, 2, 3, 8, 64, 0]);
+        self.draw_quotas(row.len() as u32);
+        let (least, most) = self.waits();
         let rng = &mut self.gen.rng;
-        let (least, most) = rng.pick(&[(0, 2), (5, 5), (0, 65_535), (65_533, 65_535), (65_534, 65_535)]);
         let alike = rng.once_in(2);
         let (min_rep_time, rep_per) = (rng.pick(&[1, 1, 1, 2]), rng.pick(&[1, 1, 2, 3]));
         let calm = rng.pick(&[2, 12, 40]);
@@ -125,18 +195,33 @@ impl HallGen {
         Call::Tick { quota: self.quota(row.len()), places: self.places(row.len()) }
     }
 
+    /// 0 for any. At times one hall tick sends all drives or all but one, or two to four send all.
+    fn usual_quota(&mut self, drives: u32) -> u32 {
+        let rng = &mut self.gen.rng;
+        match rng.below(12) {
+            0..4 => 1,
+            4..9 => rng.pick(&[2, 2, 3, 8, 63, 64]),
+            9 => (drives.saturating_sub(rng.below(2))).clamp(1, 64),
+            10 => drives.div_ceil(2 + rng.below(3)).clamp(1, 64),
+            _ => 0,
+        }
+    }
+
     /// At times one that 18 refuses.
     fn quota(&mut self, drives: usize) -> u32 {
+        let no_others = self.no_others;
         let rng = &mut self.gen.rng;
         let any = 1 + rng.below(64);
         match rng.below(if (1..=64).contains(&drives) { 24 } else { 6 }) {
             0 => rng.pick(&[0, 65, 0, 65, 66, 128, 255, u32::MAX]),
             1 => rng.pick(&[0, 256, 256 + any, 257, 1 << 16, 1 << 16 | any, 1 << 24 | any, 1 << 31 | any]),
-            2 => rng.pick(&[1, 2, 63, 64]),
-            3 => (drives as u32).clamp(1, 64),
-            4 => any,
-            _ if self.quota == 0 => 1 + rng.below((drives as u32).clamp(1, 64)),
-            _ => self.quota,
+            2 if !no_others => rng.pick(&[1, 2, 63, 64]),
+            3 if !no_others => (drives as u32).clamp(1, 64),
+            4 if !no_others => any,
+            _ => match rng.pick(&self.quotas) {
+                0 => 1 + rng.below((drives as u32).clamp(1, 64)),
+                quota => quota,
+            },
         }
     }
 

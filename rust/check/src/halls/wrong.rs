@@ -6,11 +6,11 @@ use super::first_failure;
 use crate::check::Breach;
 use crate::compare::Ask;
 use crate::event::Event;
-use crate::hall::{judge_event, judge_page, judge_tick, names_twice, report_number, tick_sending};
+use crate::hall::{judge_event, judge_page, judge_tick, names_twice, report_number, tick_choosing};
 use crate::hall::{numbers_of, Drives, HallModel, LINE};
 use crate::model::Model;
 use crate::percents::{addend_476, ruled_by_backup_value, toward};
-use crate::subject::Hall;
+use crate::subject::{Hall, Subject};
 use crate::table::Param;
 use damper::{Answer, Drive, Last, Status};
 use std::cmp::Reverse;
@@ -35,7 +35,8 @@ enum How {
     TickCall(fn(&mut [Drive], u32, &mut [u32]) -> u8),
     /// What a hall tick makes of some drives: the record before, the record and the number after.
     After(Ticked, fn(&Drive, &mut Drive, &mut u32)),
-    /// Whom a hall tick sends: of the row, the due drives, the longest waiting first, and the quota.
+    /// Whom a hall tick sends: of the row before it, the due drives, the longest waiting first and lower
+    /// numbers first among equals, and the quota.
     Sent(fn(&[Drive], Vec<usize>, usize) -> Vec<usize>),
     /// The page call.
     PageCall(fn(&[Drive], &mut [u8]) -> u8),
@@ -115,12 +116,11 @@ impl Hall for Wrong {
                 refusal
             }
             How::Sent(choose) => {
-                let due = tick_sending(&mut row.to_vec(), quota, &mut numbers.to_vec(), 0).due;
-                let mut order: Vec<_> = numbers_of(due).collect();
-                order.sort_by_key(|&i| Reverse(row[i].wait));
-                let sent = choose(row, order, quota as usize);
-                let sent = sent.into_iter().fold(0, |sent: Drives, i| sent | 1 << i);
-                tick_sending(row, quota, numbers, sent).refusal
+                let before = row.to_vec();
+                tick_choosing(row, quota, numbers, |_, due, quota| {
+                    let line = in_line(numbers_of(due), |i| Reverse(before[i].wait));
+                    choose(&before, line, quota).into_iter().fold(0, |sent: Drives, i| sent | 1 << i)
+                })
             }
             _ => HallModel.tick(row, quota, numbers),
         }
@@ -185,6 +185,27 @@ fn give(row: &mut [Drive], list: &[u32], bytes: &[u8], answers: &mut [u8]) {
             _ => 0,
         };
     }
+}
+
+/// These drives by a key, lower numbers first among equals.
+fn in_line<K: Ord>(drives: impl IntoIterator<Item = usize>, key: impl Fn(usize) -> K) -> Vec<usize> {
+    let mut line: Vec<_> = drives.into_iter().collect();
+    line.sort_by_key(|&i| (key(i), i));
+    line
+}
+
+/// The first of a line, so many of them.
+fn first(many: usize, mut line: Vec<usize>) -> Vec<usize> {
+    line.truncate(many);
+    line
+}
+
+/// The due drives among the first of a line in which others stand too, by their wait.
+fn first_due(row: &[Drive], due: &[usize], quota: usize, others: fn(&Drive) -> bool) -> Vec<usize> {
+    let all = (0..row.len()).filter(|i| due.contains(i) || others(&row[*i]));
+    let mut line = first(quota, in_line(all, |i| Reverse(row[i].wait)));
+    line.retain(|i| due.contains(i));
+    line
 }
 
 fn status(drive: &Drive) -> Status {
@@ -380,17 +401,90 @@ wrong! {
         _ => HallModel.page(row, page),
     });
 
-    // W-204 "sends at most that many reports": one more.
-    OneOverQuota: Sent(|_, due, quota| due.into_iter().take(quota + 1).collect());
-    // "If any is due, the one that waited longest goes": none does; the lowest does; the one with the most
-    // ticks since its report does.
+    // W-210 "exactly the smaller of the quota and the number due": one more; one less, but one at least; one
+    // less if just as many are due; all; one; none; half of the quota, rounded up; only those that wait
+    // already, if there are any; the first 63 of 64.
+    OneOverQuota: Sent(|_, due, quota| first(quota + 1, due));
+    OneUnderQuota: Sent(|_, due, quota| first(1.max(quota - 1), due));
+    OneLessIfEqual: Sent(|_, due, quota| first(if due.len() == quota { quota - 1 } else { quota }, due));
+    AllSent: Sent(|_, due, _| due);
+    OneSent: Sent(|_, due, _| first(1, due));
     NothingSent: Sent(|_, _, _| Vec::new());
-    LowestGoes: Sent(|_, due, _| due.into_iter().min().into_iter().collect());
-    LongestBySince: Sent(|row, due, _| due.into_iter().max_by_key(|&i| row[i].since).into_iter().collect());
-    // "lower number first among equals": the higher.
-    TiesToHigher: Sent(|row, due, _| due.into_iter().max_by_key(|&i| (row[i].wait, i)).into_iter().collect());
-    // "A well-formed drive is due when the fourth step of a tick would report": not if MinRepTime is reached
-    // by this tick; one that is not is sent.
+    HalfOfQuota: Sent(|_, due, quota| first(quota.div_ceil(2), due));
+    NewcomersHeld: Sent(|row, mut due, quota| {
+        if due.iter().any(|&i| row[i].wait > 0) {
+            due.retain(|&i| row[i].wait > 0);
+        }
+        first(quota, due)
+    });
+    NeverAll64: Sent(|_, due, quota| first(quota.min(63), due));
+    // "the quota": drives that are not due, or not well formed, take places of it.
+    NotDueTakePlaces: Sent(|row, due, quota| first_due(row, &due, quota, |drive| Model.well_formed(drive)));
+    BrokenTakePlaces: Sent(|row, due, quota| first_due(row, &due, quota, |drive| !Model.well_formed(drive)));
+    BrokenLessenQuota: Sent(|row, due, quota| {
+        let broken = row.iter().filter(|drive| !Model.well_formed(drive)).count();
+        first(1.max(quota.saturating_sub(broken)), due)
+    });
+    // "longest wait first": the lowest numbers; the first by wait and then the lowest; the lowest and then by
+    // wait; the shortest wait; the most ticks since the report; in turn by number, from behind the one that
+    // reported last; the highest numbers.
+    LowestGo: Sent(|_, due, quota| first(quota, in_line(due, |_| 0)));
+    OthersByNumber: Sent(|_, due, quota| {
+        let longest = due.first().copied();
+        first(quota, in_line(due, |i| Some(i) != longest))
+    });
+    LowestAndByWait: Sent(|row, due, quota| {
+        let lowest = due.iter().min().copied();
+        first(quota, in_line(due, |i| (Some(i) != lowest, Reverse(row[i].wait))))
+    });
+    ShortestFirst: Sent(|row, due, quota| first(quota, in_line(due, |i| row[i].wait)));
+    LongestBySince: Sent(|row, due, quota| first(quota, in_line(due, |i| Reverse(row[i].since))));
+    RoundRobin: Sent(|row, due, quota| {
+        let latest = (0..row.len()).min_by_key(|&i| (row[i].since, Reverse(i))).unwrap_or(0);
+        first(quota, in_line(due, |i| i <= latest))
+    });
+    HighestGo: Sent(|_, due, quota| first(quota, in_line(due, Reverse)));
+    // The wait is of 16 bits: cut to a byte, 256 is 0; with a sign, 32,768 is below 0.
+    WaitCutToByte: Sent(|row, due, quota| first(quota, in_line(due, |i| Reverse(row[i].wait as u8))));
+    WaitSigned: Sent(|row, due, quota| first(quota, in_line(due, |i| Reverse(row[i].wait as i16))));
+    // It is the wait from before the tick: risen by this one, 65,534 is as long as 65,535.
+    WaitRisen: Sent(|row, due, quota| {
+        first(quota, in_line(due, |i| Reverse(row[i].wait.saturating_add(1))))
+    });
+    // "lower number among equals": all that have waited as long as the last that goes; none of them unless
+    // all can go; the higher; only where the first is chosen; only for the last place; only of those at
+    // 65,535.
+    EqualsAllGo: Sent(|row, mut due, quota| {
+        if let Some(&last) = due.get(quota - 1) {
+            due.retain(|&i| row[i].wait >= row[last].wait);
+        }
+        due
+    });
+    EqualsAllHeld: Sent(|row, mut due, quota| {
+        if let Some(&next) = due.get(quota) {
+            due.retain(|&i| row[i].wait > row[next].wait);
+        }
+        due
+    });
+    TiesToHigher: Sent(|row, due, quota| first(quota, in_line(due, |i| Reverse((row[i].wait, i)))));
+    FirstTieToHigher: Sent(|row, due, quota| {
+        let highest = due.iter().copied().max_by_key(|&i| (row[i].wait, i));
+        first(quota, in_line(due, |i| (Some(i) != highest, Reverse(row[i].wait))))
+    });
+    LastTieToHigher: Sent(|row, mut due, quota| {
+        if due.len() > quota {
+            let wait = row[due[quota - 1]].wait;
+            let highest = due.iter().rposition(|&i| row[i].wait == wait);
+            due.swap(quota - 1, highest.expect("the last that goes"));
+        }
+        first(quota, due)
+    });
+    TiesAtCapToHigher: Sent(|row, due, quota| {
+        let at_cap = |i: usize| (row[i].wait == u16::MAX).then_some(i);
+        first(quota, in_line(due, |i| Reverse((row[i].wait, at_cap(i)))))
+    });
+    // W-204 "A well-formed drive is due when the fourth step of a tick would report": not if MinRepTime is
+    // reached by this tick; one that is not is sent.
     DueBeforeAgeing: After(Ticked::Sent, |before, drive, number| {
         if before.since < before.params[Param::MinRepTime as usize] {
             (drive.since, drive.last, *number) = (before.since + 1, before.last, 0);
