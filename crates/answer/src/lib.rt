@@ -1,8 +1,10 @@
 // What an event is answered with.
+#![tactic(auto)]
+
 ghost use Rattle.std.specs.Prelude.{◌≡◌, ◌%◌};
 ghost use Rattle.answer.specs.Answer.{word_of, code_of, answer_of};
 
-#[derive(Drop)]
+#[derive(Clone, Copy)]
 pub enum Answer {
     // Refused, by this number.
     No(u8),

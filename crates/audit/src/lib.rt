@@ -1,5 +1,7 @@
 // An audit of a drive's answers, ours or another's: which sentences of demands 2 and 3 fail at each event record. What the answers are held
 // against is the list of event records alone, carried by the proved drive.
+#![tactic(auto)]
+
 ghost use Rattle.std.specs.Prelude.{◌≡◌, true};
 ghost use Rattle.numbers.specs.Numbers.{pick, next};
 ghost use Rattle.damper.specs.WellFormed.{well_formed};
@@ -11,7 +13,7 @@ use numbers::{next16, pick16};
 
 // What is kept from one event record to the next.
 #[repr(C)]
-#[derive(Drop)]
+#[derive(Clone, Copy)]
 pub struct Audit {
     // The drive that the list makes, with the reports that were heard in place of its own.
     pub drive: Drive,
@@ -23,7 +25,7 @@ pub struct Audit {
 
 // Which sentences fail at an event record.
 #[repr(C)]
-#[derive(Drop)]
+#[derive(Clone, Copy)]
 pub struct Findings {
     pub spacing: bool,
     pub waiting: bool,
@@ -40,7 +42,7 @@ pub struct Findings {
 
 // The audit after an event record, 1 in place of 0 where its drive record is not well formed, and what was found.
 #[repr(C)]
-#[derive(Drop)]
+#[derive(Clone, Copy)]
 pub struct Audited {
     pub audit: Audit,
     pub refusal: u8,
@@ -49,7 +51,7 @@ pub struct Audited {
 
 // What an answer says: the number of its refusal, the position that it shows or the one before, whether it is a report, and of which
 // status.
-#[derive(Drop)]
+#[derive(Clone, Copy)]
 pub struct Said {
     pub number: u8,
     pub position: u8,
@@ -59,7 +61,7 @@ pub struct Said {
 
 // What document 01's drive makes of an event record: the drive after it, the refusal's number, whether a report is due and what is
 // answered; whether it is an accepted tick or restart; and where a tick would lead from the position that was last shown.
-#[derive(Drop)]
+#[derive(Clone, Copy)]
 pub struct Met {
     pub drive: Drive,
     pub number: u8,

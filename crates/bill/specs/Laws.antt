@@ -1,5 +1,5 @@
 -- Laws of the shares: they add up to the bill, a drive that has not moved pays nothing, and each is less than one cent off.
-use Rattle.std.specs.Prelude.{◌≡◌, false, List, ℕ, ◌+◌, ◌-◌, ◌*◌, ◌/◌, ◌%◌, ◌<◌, ◌≤◌, ltb, length, get_or}
+use Rattle.std.specs.Prelude.{◌≡◌, false, List, ℕ, ◌+◌, ◌*◌, ◌/◌, ◌%◌, ◌<◌, ◌≤◌, ltb, length, get_or}
 use Rattle.std.proofs.Common.{sym, ap, ◌∙◌, arith, mul-zero, mul-one, mul_comm, mul-add, mul-le-mul_left, div-add-mod', mod-lt, ltb-true, ltb-false, le-ltb}
 use Rattle.std.proofs.lemmas.Bool.{false≢true}
 use Rattle.std.proofs.Math.Nat.{mul-sub, le_of_mul-le-mul_left, zero-div, zero-mod}

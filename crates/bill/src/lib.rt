@@ -1,4 +1,6 @@
 // A bill in whole cents shared out by travel counts, on plain numbers: a row that holds the counts is changed to hold the shares.
+#![tactic(auto)]
+
 ghost use Rattle.std.specs.Prelude.{◌≡◌, ◌&&◌, not, ℕ, ◌+◌, ◌*◌, ◌/◌, ◌%◌, ◌^◌, ◌<◌, ◌≤◌, ltb, leb, eqb, length, get_or};
 ghost use Rattle.numbers.specs.Numbers.{pick};
 ghost use Rattle.order.specs.Keys.{key_of, count_from};

@@ -1,4 +1,6 @@
 // Which of the due drives a hall tick sends, on plain numbers: as many as the quota, or all, those that waited longest first.
+#![tactic(auto)]
+
 ghost use Rattle.std.specs.Prelude.{◌≡◌, ◌+◌, ◌<◌, ◌≤◌, length};
 ghost use Rattle.order.specs.Keys.{count_from};
 ghost use Rattle.choice.specs.Choice.{key_if, number_in, Distinct, Spanned, kept, kept_above, Next};
@@ -37,7 +39,7 @@ fn count_above(numbers: &[u32], drives: usize, bound: u32) -> u32
 }
 
 // Two numbers between which all reports lie: each is larger than `low`, and none is larger than `high`.
-#[derive(Drop)]
+#[derive(Clone, Copy)]
 pub struct Span {
     pub low: u32,
     pub high: u32,

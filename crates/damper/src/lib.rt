@@ -1,4 +1,6 @@
 // The drive record: its fields, the fresh drive, when it is well formed, and its updates.
+#![tactic(auto)]
+
 ghost use Rattle.std.specs.Prelude.{◌≡◌, ◌<◌, ◌≤◌, length};
 ghost use Rattle.numbers.specs.Numbers.{pick};
 ghost use Rattle.table.specs.Table.{rows};
@@ -15,7 +17,7 @@ mod tick;
 
 // A run: 0 none, 1 calibration, 2 sync close, 3 sync open; the ticks left.
 #[repr(C)]
-#[derive(Drop)]
+#[derive(Clone, Copy)]
 pub struct Run {
     pub kind: u8,
     pub left: u8,
@@ -23,7 +25,7 @@ pub struct Run {
 
 // Whether there is a last report, and what it said.
 #[repr(C)]
-#[derive(Drop)]
+#[derive(Clone, Copy)]
 pub struct Last {
     pub reported: u8,
     pub position: u8,
@@ -44,7 +46,7 @@ pub const NO_REPORT: Last = Last {
 // A host in C or Rust may hold the record and restore it from storage: every field is a number, an array of numbers or a struct of
 // such, so any bytes are a record. Whether each flag is 0 or 1 is part of well-formedness. In this order no byte belongs to no field.
 #[repr(C)]
-#[derive(Drop)]
+#[derive(Clone, Copy)]
 pub struct Drive {
     // The twelve parameters, in the table's order.
     pub params: [u16; table::COUNT],
@@ -66,7 +68,7 @@ pub struct Drive {
 
 // A drive after steps 1 to 3 of a tick, the ruling rank during the move, and the motor: 0 still, 1 rising, 2 falling, or 1 and 2
 // exchanged.
-#[derive(Drop)]
+#[derive(Clone, Copy)]
 pub struct Advanced {
     pub drive: Drive,
     pub rank: u8,
@@ -74,7 +76,7 @@ pub struct Advanced {
 }
 
 // The drive after an event, and the answer to it.
-#[derive(Drop)]
+#[derive(Clone, Copy)]
 pub struct Outcome {
     pub drive: Drive,
     pub answer: Answer,

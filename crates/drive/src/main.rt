@@ -1,5 +1,7 @@
 // Document 01's program: event records from standard input, a printed line for each to standard output. What is printed, and what is
 // kept from one read to the next, is `printer::turn`; here is read, call, write.
+#![tactic(auto)]
+
 ghost use Rattle.std.specs.Prelude.{◌≤◌, length};
 
 use damper::Drive;

@@ -1,4 +1,6 @@
 // The event record: six bytes, the mark, the kind and the data bytes a, b, c.
+#![tactic(auto)]
+
 ghost use Rattle.std.specs.Prelude.{◌≡◌, length};
 ghost use Rattle.event.specs.Event.{event, event_in, data_refusal, record_refusal, read_of, kind_in, write_refusal, written_to, value_of};
 
@@ -37,7 +39,7 @@ pub const OVERRIDE: u8 = 1;
 
 pub const RELEASE: u8 = 2;
 
-#[derive(Drop)]
+#[derive(Clone, Copy)]
 pub struct Event {
     pub kind: u8,
     pub a: u8,
@@ -46,7 +48,7 @@ pub struct Event {
 }
 
 // What the reader finds: an event, or the number of the refusal.
-#[derive(Drop)]
+#[derive(Clone, Copy)]
 pub enum Decoded {
     Accepted(Event),
     Refused(u8),

@@ -1,10 +1,12 @@
 // A flow box: its record, a reading as a flow, the percent shown, and what a reading does to the record.
+#![tactic(auto)]
+
 ghost use Rattle.std.specs.Prelude.{◌≡◌, true};
 ghost use Rattle.flow.specs.Answer.{No};
 ghost use Rattle.flow.specs.Flow.{between, is_setting, is_flow, is_share, measured, apart, percent_of, fresh_record, well_formed, ticked, due_at, told, hears, hear_of, heard_with, heard};
 
 // What the sensor answers: a flow in m³/h, a share of nominal, or that it is broken.
-#[derive(Drop)]
+#[derive(Clone, Copy)]
 pub enum Reading {
     Flow(f32),
     Share(f32),
@@ -12,7 +14,7 @@ pub enum Reading {
 }
 
 // A reading as a flow.
-#[derive(Drop)]
+#[derive(Clone, Copy)]
 pub enum Measured {
     At(f32),
     Nothing,
@@ -21,7 +23,7 @@ pub enum Measured {
 
 // A host in C or Rust may hold the record: any bytes are one, and `well_formed` says which are taken.
 #[repr(C)]
-#[derive(Drop)]
+#[derive(Clone, Copy)]
 pub struct FlowRecord {
     // Ticks since the last report, which stop at 65,535.
     pub since: u16,
@@ -39,7 +41,7 @@ pub struct FlowRecord {
 
 // The record after a call; the flow of a report; the refusal; whether there is a report, 1 or 0; its percent. What there is not, is 0.
 #[repr(C)]
-#[derive(Drop)]
+#[derive(Clone, Copy)]
 pub struct FlowHeard {
     pub state: FlowRecord,
     pub flow: f32,

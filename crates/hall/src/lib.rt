@@ -1,4 +1,6 @@
 // When a hall call is refused itself, and how many turns it has.
+#![tactic(auto)]
+
 ghost use Rattle.std.specs.Prelude.{◌≡◌, false, ◌<◌, eqb, length, get_or};
 ghost use Rattle.numbers.specs.Numbers.{pick};
 ghost use Rattle.hall.specs.Hall.{give, bad_row, bad_number, is_tick, names_twice, tick_refusal, refusal_to16, call_refusal};

@@ -1,4 +1,6 @@
 // The bill of a hall for a host in C or Rust. An archive of its own.
+#![tactic(auto)]
+
 ghost use Rattle.std.specs.Prelude.{◌≡◌, ◌+◌, ◌^◌, ◌<◌, ◌≤◌, length};
 ghost use Rattle.bill.specs.Tally.{tallied, noted};
 ghost use Rattle.hall_bill.specs.HallBill.{bill_refusal, shares_after};

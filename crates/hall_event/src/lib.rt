@@ -1,4 +1,6 @@
 // The event call of a hall for a host in C or Rust. An archive of its own, in which the step has one call site.
+#![tactic(auto)]
+
 ghost use Rattle.std.specs.Prelude.{◌≡◌, length};
 ghost use Rattle.answer.specs.Answer.{number_of};
 ghost use Rattle.damper.specs.Step.{step_of};
@@ -9,7 +11,7 @@ use answer::Answer;
 use damper::Drive;
 
 // A drive after an event, and the number of its answer.
-#[derive(Drop)]
+#[derive(Clone, Copy)]
 pub struct Given {
     pub drive: Drive,
     pub number: u8,

@@ -1,4 +1,6 @@
 // The shift page of a hall for a host in C or Rust. An archive of its own.
+#![tactic(auto)]
+
 ghost use Rattle.std.specs.Prelude.{◌≡◌, length};
 ghost use Rattle.shift.specs.Shift.{page_refusal, page_after};
 

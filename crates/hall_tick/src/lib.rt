@@ -1,4 +1,6 @@
 // The hall tick for a host in C or Rust. An archive of its own, in which each part of a drive's tick has one call site.
+#![tactic(auto)]
+
 ghost use Rattle.std.specs.Prelude.{◌≡◌, false, ◌+◌, ◌*◌, ◌<◌, length};
 ghost use Rattle.damper.specs.Record.{with_wait};
 ghost use Rattle.damper.specs.Tick.{reported, status_of};
@@ -11,7 +13,7 @@ use damper::Drive;
 use numbers::{next16, pick16};
 
 // A drive, and what stands for it in the row of numbers.
-#[derive(Drop)]
+#[derive(Clone, Copy)]
 pub struct Held {
     pub drive: Drive,
     pub number: u32,

@@ -1,4 +1,6 @@
 // The functions that a host in C or Rust links: a slice passes as a pointer and a length, the record by value.
+#![tactic(auto)]
+
 ghost use Rattle.std.specs.Prelude.{◌≡◌};
 ghost use Rattle.event.specs.Event.{event, read_of, write_refusal, written_to};
 ghost use Rattle.damper.specs.Record.{fresh_drive};
@@ -12,7 +14,7 @@ use event::Decoded;
 // The drive after an event, and the answer: its word (0 `no`, 1 `ok`, 2 `par`, 3 `at`, 4 `tick` with no report, 5 `tick` with one)
 // and its values, each but the first a digit of base 256 behind the one before.
 #[repr(C)]
-#[derive(Drop)]
+#[derive(Clone, Copy)]
 pub struct Stepped {
     pub drive: Drive,
     pub word: u8,
@@ -21,7 +23,7 @@ pub struct Stepped {
 
 // An event that was read, or a refusal from 2 to 8 and zeros.
 #[repr(C)]
-#[derive(Drop)]
+#[derive(Clone, Copy)]
 pub struct Found {
     pub refusal: u8,
     pub kind: u8,

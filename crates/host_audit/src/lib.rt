@@ -1,4 +1,6 @@
 // The outlook and the audit for a host in C or Rust. An archive of its own, in which the step has one call site.
+#![tactic(auto)]
+
 ghost use Rattle.std.specs.Prelude.{◌≡◌};
 ghost use Rattle.answer.specs.Answer.{answer_of};
 ghost use Rattle.outlook.specs.Outlook.{outlook_of};

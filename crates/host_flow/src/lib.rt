@@ -1,4 +1,6 @@
 // The flow box for hosts in C or Rust: the record by value, a reading as a kind and a float, since an enum does not cross.
+#![tactic(auto)]
+
 ghost use Rattle.std.specs.Prelude.{◌≡◌};
 ghost use Rattle.flow.specs.Flow.{fresh_record, well_formed, hear_of, heard};
 ghost use Rattle.host_flow.specs.Host.{reading_of};

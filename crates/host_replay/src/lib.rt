@@ -1,4 +1,6 @@
 // The replay for a host in C or Rust. An archive of its own, in which the step has one call site.
+#![tactic(auto)]
+
 ghost use Rattle.std.specs.Prelude.{◌≡◌, length};
 ghost use Rattle.answer.specs.Answer.{word_of, code_of};
 ghost use Rattle.damper.specs.Step.{step_of};

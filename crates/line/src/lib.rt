@@ -1,5 +1,7 @@
 // A printed line of the drive program, written into a buffer. Each function writes from `at` on and answers the place after
 // what it wrote; a place in between is named for what goes there.
+#![tactic(auto)]
+
 ghost use Rattle.std.specs.Prelude.{◌≡◌, [], ◌∷◌, ◌+◌, ◌<◌, ◌≤◌, length};
 ghost use Rattle.line.specs.Line.{decimal, spaced_values, text_of, Written, put_line, end_of, room};
 

@@ -1,4 +1,6 @@
 // Percents and positions, the ticks of a run, one move and the motor.
+#![tactic(auto)]
+
 ghost use Rattle.std.specs.Prelude.{◌≡◌, ◌≤◌};
 ghost use Rattle.motion.specs.Motion.{to_position, to_percent, run_ticks, within, toward, motor};
 

@@ -1,4 +1,6 @@
 // Small functions on numbers and flags.
+#![tactic(auto)]
+
 ghost use Rattle.std.specs.Prelude.{◌≡◌, ◌||◌, ℕ, ◌<◌, ◌≤◌, min, max, eqb};
 ghost use Rattle.numbers.specs.Numbers.{pick, bit, flag_at, distance, next, counted};
 

@@ -1,4 +1,6 @@
 // What a tick would go by: who rules it and toward what, what it leaves, and each condition of step 4.
+#![tactic(auto)]
+
 ghost use Rattle.std.specs.Prelude.{◌≡◌};
 ghost use Rattle.outlook.specs.Outlook.{outlook_of};
 
@@ -6,7 +8,7 @@ use damper::Drive;
 
 // Of a tick that finds the drive as it is. A report goes out where `waited` and one of the four behind it hold.
 #[repr(C)]
-#[derive(Drop)]
+#[derive(Clone, Copy)]
 pub struct Outlook {
     // 1 where the record is not well formed, and then all else is 0 or false; otherwise 0.
     pub refusal: u8,

@@ -1,4 +1,6 @@
 // The printed lines of a row of event records.
+#![tactic(auto)]
+
 ghost use Rattle.std.specs.Prelude.{◌≡◌, ◌++◌, ◌+◌, ◌*◌, ◌/◌, ◌%◌, ◌<◌, ◌≤◌, length, take, drop};
 ghost use Rattle.numbers.specs.Numbers.{pick};
 ghost use Rattle.damper.specs.Step.{step_of};
@@ -9,7 +11,7 @@ ghost use Rattle.printer.specs.Page.{counted, count_after, lines_after, page_aft
 use damper::Drive;
 
 // The drive after the records that were answered, how many it was given by then, and how many bytes their lines have.
-#[derive(Drop)]
+#[derive(Clone, Copy)]
 pub struct Printed {
     pub drive: Drive,
     pub count: u64,
@@ -85,7 +87,7 @@ fn waiting(ended: bool, have: usize) -> usize
 
 // The program between two reads: the drive, how many records it was given, and how many bytes of the next one stand at the front of
 // the input.
-#[derive(Drop)]
+#[derive(Clone, Copy)]
 pub struct Session {
     pub drive: Drive,
     pub count: u64,
@@ -93,7 +95,7 @@ pub struct Session {
 }
 
 // What a piece of the input leaves, and how many bytes its lines have.
-#[derive(Drop)]
+#[derive(Clone, Copy)]
 pub struct Turned {
     pub next: Session,
     pub used: usize,

@@ -1,4 +1,6 @@
 // A drive carried over a row of event records.
+#![tactic(auto)]
+
 ghost use Rattle.std.specs.Prelude.{◌≡◌, length};
 ghost use Rattle.answer.specs.Answer.{word_of, code_of};
 ghost use Rattle.damper.specs.Step.{step_of};
@@ -9,7 +11,7 @@ use damper::Drive;
 
 // The drive after the records that were carried out, and how many these are.
 #[repr(C)]
-#[derive(Drop)]
+#[derive(Clone, Copy)]
 pub struct Replayed {
     pub drive: Drive,
     pub count: usize,

@@ -1,11 +1,11 @@
 -- Commands that fit, with one group changed.
-use Rattle.std.specs.Prelude.{◌≡◌, refl, true, ℕ, ◌≤◌, leb}
+use Rattle.std.specs.Prelude.{◌≡◌, true, ℕ, ◌≤◌, leb}
 use Rattle.std.proofs.Math.Bool.{and-eq-true_iff}
 use Rattle.std.proofs.Common.{leb-true}
 use Rattle.numbers.specs.Numbers.{is_flag}
 use Rattle.numbers.specs.Laws.{and_left, and_intro}
 use Rattle.rules.specs.declared.Commands.{Commands}
-use Rattle.rules.specs.Commands.{interlocked, handed, overridden, written, off_zero, flagged, commands_fit}
+use Rattle.rules.specs.Commands.{off_zero, flagged, commands_fit}
 
 -- what commands that fit have passed, `a` being the age of the setpoint
 pub record Parts (c : Commands) (a : ℕ) : Type 0 where

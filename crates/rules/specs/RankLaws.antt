@@ -1,5 +1,5 @@
 -- Laws of the active byte and of the ruling rank: it is the rank of the highest source that is active.
-use Rattle.std.specs.Prelude.{◌≡◌, refl, Bool, true, false, List, [], ◌∷◌, map, ℕ, suc, ◌+◌, ◌^◌, ◌<◌, ◌≤◌}
+use Rattle.std.specs.Prelude.{◌≡◌, refl, Bool, true, false, [], ◌∷◌, ℕ, suc, ◌+◌, ◌^◌, ◌<◌, ◌≤◌}
 use Rattle.std.proofs.Common.{subst, lt_of_lt_of_le, lt_of_not-le, not-le_of_lt, le_trans, pow_mono, pow_pos}
 use native.Mathlib.Omega.{arith}
 use Rattle.std.specs.Int.Count.{count_leading_zeros}

@@ -1,4 +1,6 @@
 // Document 01's rules over plain numbers and flags, and what the latest commands say.
+#![tactic(auto)]
+
 ghost use Rattle.std.specs.Prelude.{◌≡◌, ◌≤◌};
 ghost use Rattle.table.specs.Laws.{Ranges};
 ghost use Rattle.rules.specs.Commands.{flagged, commands_fit};
@@ -11,7 +13,7 @@ use numbers::{bit, pick8};
 
 // What the latest commands say. A flag is a byte, set at 1, so that any bytes are commands; those that fit have flags of 0 and 1.
 #[repr(C)]
-#[derive(Drop)]
+#[derive(Clone, Copy)]
 pub struct Commands {
     pub fault: u8,
     // 0 and 1 none, 2 forced to 0, 3 forced to 255.

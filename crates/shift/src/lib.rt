@@ -1,5 +1,7 @@
 // The shift page's lines, written into a buffer. Each function but the first writes from `at` on and answers the place after what it
 // wrote.
+#![tactic(auto)]
+
 ghost use Rattle.std.specs.Prelude.{◌≡◌, [], ◌∷◌, ◌++◌, ◌+◌, ◌<◌, ◌≤◌, length};
 ghost use Rattle.line.specs.Line.{decimal, spaced, Written};
 ghost use Rattle.rules.specs.Rank.{source_at};

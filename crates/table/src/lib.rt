@@ -1,8 +1,10 @@
 // The parameter table: one constant of twelve rows, the search by number, the range rule and the fresh values.
+#![tactic(auto)]
+
 ghost use Rattle.std.specs.Prelude.{◌≡◌, ◌<◌};
 ghost use Rattle.table.specs.Table.{rows, place_of, in_range, all_in, known, takes, fresh_values};
 
-#[derive(Drop)]
+#[derive(Clone, Copy)]
 pub struct Row {
     pub number: u8,
     pub least: u16,

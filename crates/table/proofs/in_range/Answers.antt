@@ -1,0 +1,5 @@
+use mathlib.Core.Path.{refl}
+use Rattle.table.proofs.in_range.Goals as goal
+
+pub returns : goal.returns
+returns c = refl
