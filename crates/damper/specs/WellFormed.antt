@@ -1,5 +1,5 @@
 -- Document 01, 'The drive record': when a record is well formed.
-use Rattle.std.specs.Prelude.{Bool, not, ◌&&◌, ◌||◌, ℕ, leb, eqb}
+use Rattle.std.specs.Prelude.{Bool, not, ◌&&◌, ℕ, leb, eqb}
 use Rattle.numbers.specs.Numbers.{pick}
 use Rattle.table.specs.Table.{rows, all_in, low, high, rate}
 use Rattle.motion.specs.Motion.{run_ticks}

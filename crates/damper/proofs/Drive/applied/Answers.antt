@@ -1,5 +1,6 @@
 use Rattle.damper.specs.Step.{applied, obeyed}
 use mathlib.Core.Path.{refl}
+use native.Mathlib.Omega.{arith}
 use borrow.Author.Tests.{ltb-true, ne_eqb}
 use Rattle.event.specs.Laws.{known_read, known_write, percent_most}
 use Rattle.damper.proofs.Drive.applied.Goals as goal
@@ -57,6 +58,5 @@ pub returns-in_default : goal.returns-in_default
 unfolding applied obeyed
 returns-in_default c =
     let k = c.args.e.kind in
-    let n = c.in_default.rest in
-    rw (ne_eqb k 1 n.0.0.0.0.0.0.0.0.0.1, ne_eqb k 2 n.0.0.0.0.0.0.0.0.1, ne_eqb k 3 n.0.0.0.0.0.0.0.1, ne_eqb k 4 n.0.0.0.0.0.0.1, ne_eqb k 5 n.0.0.0.0.0.1, ne_eqb k 6 n.0.0.0.0.1, ne_eqb k 7 n.0.0.0.1, ne_eqb k 8 n.0.0.1, ne_eqb k 10 n.0.1, ne_eqb k 11 n.1)
+    rw (ne_eqb k 1 (λ q. omega arith), ne_eqb k 2 (λ q. omega arith), ne_eqb k 3 (λ q. omega arith), ne_eqb k 4 (λ q. omega arith), ne_eqb k 5 (λ q. omega arith), ne_eqb k 6 (λ q. omega arith), ne_eqb k 7 (λ q. omega arith), ne_eqb k 8 (λ q. omega arith), ne_eqb k 10 (λ q. omega arith), ne_eqb k 11 (λ q. omega arith))
     (simp c.restarted-self.ensures)

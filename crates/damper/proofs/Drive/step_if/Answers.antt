@@ -16,7 +16,7 @@ event_in-requires c = (refusal_none _ _ (sym c.refusal-n.ensures ∙ c.if-n-ne0.
 pub applied-requires : goal.applied-requires
 applied-requires c =
     let t = refusal_none _ _ (sym c.refusal-n.ensures ∙ c.if-n-ne0.false) in
-    (wf_ranges _ t.0, (wf_flags _ t.0, rw c.event_in.ensures t.2))
+    record { ranges = wf_ranges _ t.0; flags = wf_flags _ t.0; e_value = rw c.event_in.ensures t.2 }
 
 pub returns : goal.returns
 unfolding step_of

@@ -7,5 +7,8 @@ pub returns : goal.returns
 unfolding active_byte
 returns c =
     let a = c.args.c in
-    let f = c.requires in record { value = simp (flag_bit a.tool 4 f.tool, flag_bit a.hand 8 f.hand, flag_bit a.fault 64 f.fault, c.bit-4.ensures.value, c.forced.ensures, c.bit-3.ensures.value, c.bit-2.ensures.value, c.bit.ensures.value)
-          (omega arith); bound = omega (arith, f.tool, f.hand, f.fault) }
+    let f = c.requires in record {
+      value = simp (flag_bit a.tool 4 f.tool, flag_bit a.hand 8 f.hand, flag_bit a.fault 64 f.fault, c.bit-4.ensures.value, c.forced.ensures, c.bit-3.ensures.value, c.bit-2.ensures.value, c.bit.ensures.value)
+          (omega arith);
+      bound = omega (arith, f.tool, f.hand, f.fault);
+    }
