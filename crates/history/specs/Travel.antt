@@ -1,12 +1,12 @@
 -- Document 02, W-208: "Each drive counts the position units it has moved, up to 4,294,967,295, where the count stays; .. The count equals
 -- the sum of all its moves in the list of events, up to that cap."
-use Rattle.std.specs.Prelude.{◌≡◌, refl, Bool, true, false, ℕ, ◌+◌, ◌≤◌, min, eqb}
+use Rattle.std.specs.Prelude.{◌≡◌, refl, ℕ, ◌+◌, ◌≤◌, min, eqb}
 use Rattle.std.proofs.Common.{sym, ◌∙◌, eqb-true, ne_eqb}
 use Rattle.std.proofs.Math.Path.{ap}
 use mathlib.Core.List.{List, [], ◌∷◌}
 use native.Mathlib.Omega.{arith}
 use Rattle.std.proofs.lemmas.Bool.{eqb-false}
-use Rattle.numbers.specs.Numbers.{pick, distance, counted}
+use Rattle.numbers.specs.Numbers.{distance, counted}
 use Rattle.numbers.specs.Laws.{cases}
 use Rattle.event.specs.Event.{event_in}
 use Rattle.event.specs.Laws.{admitted}

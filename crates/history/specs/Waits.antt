@@ -1,5 +1,5 @@
 -- On any trace, spacing follows from when a tick may report and from the silence of other events, waiting from when a tick must.
-use Rattle.std.specs.Prelude.{◌≡◌, refl, true, false, List, ◌∷◌, ◌++◌, ℕ, ◌+◌, ◌≤◌, leb}
+use Rattle.std.specs.Prelude.{◌≡◌, refl, false, List, ◌∷◌, ◌++◌, ℕ, ◌+◌, ◌≤◌, leb}
 use Rattle.std.proofs.Common.{sym, ◌∙◌, arith, leb-true, le-leb, eqb-true}
 use Rattle.std.proofs.lemmas.Bool.{false≢true}
 use Rattle.numbers.specs.Laws.{cases, and_left, or_left, or_right, not_false}

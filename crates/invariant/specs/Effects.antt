@@ -1,5 +1,5 @@
 -- What an accepted event does to each field of the record, one equation a field, and what a step does with a refusal.
-use Rattle.std.specs.Prelude.{◌≡◌, Bool, true, false, not, ◌&&◌, ◌||◌, List, ℕ, eqb, set}
+use Rattle.std.specs.Prelude.{◌≡◌, true, false, not, ◌&&◌, ◌||◌, List, ℕ, eqb, set}
 use Rattle.std.proofs.Math.Path.{refl}
 use Rattle.std.proofs.Common.{sym, ap, ◌∙◌, ne_eqb}
 use Rattle.numbers.specs.Numbers.{pick, on, bit, distance, next, counted}

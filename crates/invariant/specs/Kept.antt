@@ -1,11 +1,11 @@
 -- Every event keeps a drive record well formed.
-use Rattle.std.specs.Prelude.{◌≡◌, Bool, true, not, ◌&&◌, ◌||◌, List, [], ◌∷◌, ℕ, zero, suc, ◌+◌, ◌-◌, ◌≤◌, ◌<◌, leb, ltb, eqb, get_or, set, length}
+use Rattle.std.specs.Prelude.{◌≡◌, Bool, true, not, ◌&&◌, ◌||◌, List, [], ◌∷◌, ℕ, suc, ◌+◌, ◌-◌, ◌≤◌, ◌<◌, leb, ltb, eqb, get_or, set, length}
 use Rattle.std.proofs.Math.Path.{refl}
 use Rattle.std.proofs.Common.{sym, ap, ◌∙◌, le_refl, arith, get_or-set_same, get_or-set_other, leb-true, leb-false, eqb-true, ltb-true, ltb-false, le-leb, eq-eqb}
 use Rattle.std.proofs.Math.Bool.{false, and-eq-true_iff, or-true}
 use Rattle.std.proofs.Math.Nat.{sub_self}
 use Rattle.std.proofs.lemmas.Bool.{eqb-false}
-use Rattle.numbers.specs.Numbers.{pick, on, is_flag, bit}
+use Rattle.numbers.specs.Numbers.{pick, on, is_flag}
 use Rattle.numbers.specs.Laws.{cases, and_left, and_right, and_intro, or_left, not_false, pick_elim}
 use Rattle.table.specs.declared.Row.{Row}
 use Rattle.table.specs.Table.{rate_number, low_number, high_number, rows, row_at, all_in, place_from, place_of, known, takes, damper_mode, start_synchronization, rate, low, high}

@@ -1,12 +1,11 @@
 -- However the input is cut into pieces, the lines are those of the whole input.
-use Rattle.std.specs.Prelude.{◌≡◌, refl, Bool, true, false, List, [], ◌∷◌, ◌++◌, ℕ, zero, suc, ◌+◌, ◌*◌, ◌-◌, ◌/◌, ◌%◌, ◌≤◌, length, take, drop}
+use Rattle.std.specs.Prelude.{◌≡◌, Bool, true, false, List, [], ◌∷◌, ◌++◌, ℕ, zero, suc, ◌+◌, ◌*◌, ◌-◌, ◌/◌, ◌%◌, ◌≤◌, length, take, drop}
 use Rattle.std.proofs.Common.{sym, ap, ◌∙◌, append_assoc, append-nil, arith, zero-add, suc-add, length-take, length-drop, take-append-drop, take_all, take-take, length-take-le}
 use Rattle.std.proofs.Math.Seq.{take-nil}
 use Rattle.numbers.specs.Numbers.{pick}
 use Rattle.event.specs.Records.{records_of}
 use Rattle.event.specs.RecordLaws.{records_fit}
 use Rattle.damper.specs.declared.Drive.{Drive}
-use Rattle.damper.specs.declared.Outcome.{Outcome}
 use Rattle.damper.specs.Record.{fresh_drive}
 use Rattle.damper.specs.Step.{step_of}
 use Rattle.damper.specs.Carry.{outcomes, drive_after}

@@ -1,6 +1,6 @@
 -- Document 02, W-208: drives that count their moves wrongly, each refused by "The count equals the sum of all its moves in the list of
 -- events, up to that cap" on a list from a fresh drive on, or, where the cap is what is wrong, by one tick from a record close to it.
-use Rattle.std.specs.Prelude.{◌≡◌, refl, Bool, true, not, ◌&&◌, List, [], ◌∷◌, ℕ, ◌+◌, ◌-◌, ◌%◌, min, eqb}
+use Rattle.std.specs.Prelude.{◌≡◌, refl, Bool, not, ◌&&◌, List, [], ◌∷◌, ℕ, ◌+◌, ◌-◌, ◌%◌, min, eqb}
 use Rattle.std.proofs.Common.{eqb-true}
 use Rattle.std.proofs.lemmas.Bool.{eqb-false, not-true}
 use Rattle.numbers.specs.Numbers.{pick, distance, counted}

@@ -1,0 +1,18 @@
+use Rattle.audit.specs.Audit as A
+use mathlib.Core.Path.{refl}
+use Rattle.audit.proofs.Audit.followed.Goals as goal
+
+pub returns : goal.returns
+unfolding A.followed
+returns c =
+    let known = c in
+    let given = known.args in
+    simp (
+      c.pick16-2.ensures,
+      c.with_heard.ensures,
+      c.pick16.ensures,
+      known.pick_last-last.ensures,
+      known.pick_last.ensures,
+      known.counted-apart.ensures,
+      known.counted-since.ensures,
+    ) (refl {a = A.followed given.self given.m given.said})

@@ -1,0 +1,12 @@
+-- The bytes before `i` are those from `from` on, and the others are still as they were.
+use mathlib.Core.Path.{◌≡◌}
+use Prim.Native.Nat.{◌-◌, ◌≤◌}
+use lib.ListN.{length, take, drop}
+use Rattle.printer.proofs.keep_rest.Given as goal
+
+abbrev pub invariant-loop-i : goal.invariant-loop-i
+invariant-loop-i l =
+    (l.i ≤ l.kept) × (length l.input ≡ length l.initial.input) × (take l.i l.input ≡ take l.i (drop l.from l.initial.input)) × (drop l.i l.input ≡ drop l.i l.initial.input)
+
+abbrev pub decreases-loop-i : goal.decreases-loop-i
+decreases-loop-i l = l.kept - l.i
