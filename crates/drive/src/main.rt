@@ -3,10 +3,14 @@
 #![tactic(auto)]
 
 ghost use Rattle.std.specs.Prelude.{◌≤◌, length};
+ghost use Rattle.std.specs.Io.{ReadsAtMost};
 
 use damper::Drive;
-use libc::{STDIN_FILENO, STDOUT_FILENO};
 use printer::Session;
+use std::fmt;
+use std::io;
+use std::io::{ErrorKind, Read, Write};
+use std::thread;
 
 // How many records are answered with one write, and the bytes that they and their lines need.
 const RECORDS: usize = 1024;
@@ -15,58 +19,74 @@ const INPUT: usize = RECORDS * event::LENGTH;
 
 const OUTPUT: usize = RECORDS * line::ROOM;
 
-// More calls than any input outlasts: every function is proved to return.
-const ENDLESS: u64 = 0xffff_ffff_ffff_ffff;
+// What ends the program before its input ends.
+#[derive(Drop)]
+enum Failure {
+    Input(io::Error),
+    Output(io::Error),
+}
+
+// The line on standard error, behind `Error: `.
+impl fmt::Debug for Failure {
+    fn fmt<W: fmt::Write>(&self, f: &mut fmt::Formatter<W>) -> fmt::Result {
+        match self {
+            Failure::Input(error) => write!(f, "standard input: {error}"),
+            Failure::Output(error) => write!(f, "standard output: {error}"),
+        }
+    }
+}
 
 // Whether a call that failed is made again: it was interrupted, or its descriptor does not wait and is not ready yet.
-fn again() -> bool {
-    let error = os::errno();
-    if error == libc::EAGAIN {
-        libc::sched_yield();
-        return true;
+fn again(error: &io::Error) -> bool {
+    match error.kind() {
+        ErrorKind::WouldBlock => {
+            thread::yield_now();
+            true
+        }
+        ErrorKind::Interrupted => true,
+        _ => false,
     }
-    error == libc::EINTR
 }
 
-// What a read into the input from `kept` on answers.
-fn get(input: &mut [u8], kept: usize) -> isize
-    requires { kept ≤ length input.old }
+// How many bytes one read gives; 0 at the end of the input. More calls than any input outlasts: every function is proved to return.
+fn get<R: Read>(input: &mut R, buffer: &mut [u8]) -> io::Result<usize>
+    ensures { ReadsAtMost result buffer.new }
 {
-    let mut calls = ENDLESS;
-    while calls > 0 {
-        calls -= 1;
-        let got = libc::read(STDIN_FILENO, &mut input[kept..]);
-        if got >= 0 {
-            return got;
-        }
-        if !again() {
-            return got;
-        }
-    }
-    -1
-}
-
-// Writes all of the text, or stops at a write that fails and answers false.
-fn put(text: &[u8]) -> bool {
-    let mut done: usize = 0;
-    let mut calls = ENDLESS;
-    while calls > 0 {
-        calls -= 1;
-        if done == text.len() {
-            return true;
-        }
-        let taken = libc::write(STDOUT_FILENO, &text[done..]);
-        if taken < 0 {
-            if !again() {
-                return false;
+    for _ in 0..u64::MAX {
+        match input.read(buffer) {
+            Ok(got) => return Ok(got),
+            Err(error) => {
+                if !again(&error) {
+                    return Err(error);
+                }
             }
         }
-        done += io::count(taken, &text[done..]);
     }
-    false
+    input.read(buffer)
 }
 
-fn main() {
+// Writes all of the text, or stops at a write that fails.
+fn put<W: Write>(output: &mut W, text: &[u8]) -> io::Result<()> {
+    let mut done: usize = 0;
+    for _ in 0..u64::MAX {
+        if done == text.len() {
+            return Ok(());
+        }
+        match output.write(&text[done..]) {
+            Ok(taken) => done += taken,
+            Err(error) => {
+                if !again(&error) {
+                    return Err(error);
+                }
+            }
+        }
+    }
+    output.write_all(&text[done..])
+}
+
+fn main(rt: HostRuntime) -> Result<(), Failure> {
+    let mut stdin = rt.stdin();
+    let mut stdout = rt.stdout();
     let mut input = [0u8; INPUT];
     let mut out = [0u8; OUTPUT];
     let mut s = Session {
@@ -74,26 +94,16 @@ fn main() {
         count: 0,
         kept: 0,
     };
-    let mut turns = ENDLESS;
-    while turns > 0 {
-        turns -= 1;
+    for _ in 0..u64::MAX {
         let kept = s.kept;
-        let got = get(&mut input, kept);
-        if got < 0 {
-            os::fail(b"standard input");
-            return;
-        }
-        let have = kept + io::count(got, &input[kept..]);
-        let t = printer::turn(s, &mut input, have, got == 0, &mut out);
+        let got = get(&mut stdin, &mut input[kept..]).map_err(Failure::Input)?;
+        let t = printer::turn(s, &mut input, kept + got, got == 0, &mut out);
         let used = t.used;
-        if !put(&out[..used]) {
-            os::fail(b"standard output");
-            return;
-        }
+        put(&mut stdout, &out[..used]).map_err(Failure::Output)?;
         if got == 0 {
-            return;
+            return Ok(());
         }
-        let next = t.next;
-        s = next;
+        s = t.next;
     }
+    Ok(())
 }
