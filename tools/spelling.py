@@ -65,7 +65,7 @@ def snake(name):
 
 
 def is_old(name):
-    return CAMEL.fullmatch(name) or KEBAB.fullmatch(name)
+    return any(CAMEL.fullmatch(part) or KEBAB.fullmatch(part) for part in name.split("◌"))
 
 
 def head(text, at):
@@ -113,8 +113,8 @@ def imports(text, own):
         mine = parts[0] == "Rattle" and len(parts) > 2 and parts[1] in own and not (parts[2] == "proofs" and len(parts) > 4) and "declared" not in parts
         names = [n.strip().split(" as ")[0].strip() for n in (m.group(2) or m.group(4) or "").split(",") if n.strip()]
         (ours if mine else lib).update(names)
-        if m.group(3):
-            (alias if mine else other).add(m.group(3))
+        if m.group(3) or not (m.group(2) or m.group(4)):
+            (alias if mine else other).add(m.group(3) or parts[-1])
     return lib, ours, alias, other
 
 
@@ -160,7 +160,7 @@ def new_name(path, name):
     for folder, table in OTHERWISE.items():
         if (folder == "" or path == folder or path.startswith(folder + "/")) and name in table:
             return table[name]
-    return snake(name) if is_old(name) else name
+    return "◌".join(snake(part) for part in name.split("◌")) if is_old(name) else name
 
 
 def parameters(text):

@@ -1,4 +1,4 @@
-// The functions that a host in C or Rust links: a slice passes as a pointer and a length, the record by value.
+// What a host in C or Rust is handed: a slice passes as a pointer and a length, the record by value. `host_c` exports it.
 #![tactic(auto)]
 
 ghost use Rattle.std.specs.Prelude.{◌≡◌};
@@ -32,22 +32,19 @@ pub struct Found {
     pub c: u8,
 }
 
-#[unsafe(no_mangle)]
-pub extern "C" fn damper_fresh_layout3() -> Drive
+pub fn damper_fresh_layout3() -> Drive
     ensures { result ≡ fresh_drive }
 {
     Drive::fresh()
 }
 
-#[unsafe(no_mangle)]
-pub extern "C" fn damper_well_formed_layout3(d: Drive) -> bool
+pub fn damper_well_formed_layout3(d: Drive) -> bool
     ensures { result ≡ well_formed d }
 {
     d.well_formed()
 }
 
-#[unsafe(no_mangle)]
-pub extern "C" fn damper_step_layout3(d: Drive, s: &[u8]) -> Stepped
+pub fn damper_step_layout3(d: Drive, s: &[u8]) -> Stepped
     ensures { result ≡ stepped (step_of d s.now) }
 {
     let o = d.step(s);
@@ -60,8 +57,7 @@ pub extern "C" fn damper_step_layout3(d: Drive, s: &[u8]) -> Stepped
     }
 }
 
-#[unsafe(no_mangle)]
-pub extern "C" fn damper_read_layout3(s: &[u8]) -> Found
+pub fn damper_read_layout3(s: &[u8]) -> Found
     ensures { result ≡ found (read_of s.now) }
 {
     match event::read(s) {
@@ -82,8 +78,7 @@ pub extern "C" fn damper_read_layout3(s: &[u8]) -> Found
     }
 }
 
-#[unsafe(no_mangle)]
-pub extern "C" fn damper_write_layout3(buf: &mut [u8], kind: u8, a: u8, b: u8, c: u8) -> u8
+pub fn damper_write_layout3(buf: &mut [u8], kind: u8, a: u8, b: u8, c: u8) -> u8
     ensures answer { result ≡ write_refusal buf.old (event kind a b c) }
     ensures bytes { buf.new ≡ written_to buf.old (event kind a b c) }
 {

@@ -1,4 +1,5 @@
-// The flow box for hosts in C or Rust: the record by value, a reading as a kind and a float, since an enum does not cross.
+// The flow box for hosts in C or Rust: the record by value, a reading as a kind and a float, since an enum does not cross. `host_flow_c`
+// exports it.
 #![tactic(auto)]
 
 ghost use Rattle.std.specs.Prelude.{◌≡◌};
@@ -19,22 +20,19 @@ fn reading_of(kind: u32, value: f32) -> Reading
     }
 }
 
-#[unsafe(no_mangle)]
-pub extern "C" fn damper_flow_fresh_layout3(nominal: f32, cov: f32, time: u32) -> FlowRecord
+pub fn damper_flow_fresh_layout3(nominal: f32, cov: f32, time: u32) -> FlowRecord
     ensures { result ≡ fresh_record nominal cov time }
 {
     FlowRecord::fresh(nominal, cov, time)
 }
 
-#[unsafe(no_mangle)]
-pub extern "C" fn damper_flow_well_formed_layout3(flow: FlowRecord) -> bool
+pub fn damper_flow_well_formed_layout3(flow: FlowRecord) -> bool
     ensures { result ≡ well_formed flow }
 {
     flow.well_formed()
 }
 
-#[unsafe(no_mangle)]
-pub extern "C" fn damper_flow_hear_layout3(flow: FlowRecord, kind: u32, value: f32) -> FlowHeard
+pub fn damper_flow_hear_layout3(flow: FlowRecord, kind: u32, value: f32) -> FlowHeard
     ensures { result ≡ heard (hear_of flow (reading_of kind value)) }
 {
     if flow.well_formed() {

@@ -12,7 +12,7 @@ use Rattle.hall.specs.Hall.{bad_row}
 use Rattle.hall.specs.Laws.{row_few}
 use Rattle.shift.specs.Shift as S
 use Rattle.shift.specs.Laws as L
-use Rattle.sentences.specs.Words.{◌is◌, ◌isNot◌, first_that_fits}
+use Rattle.sentences.specs.Words.{◌is◌, ◌is_not◌, first_that_fits}
 use Rattle.sentences.specs.Paper as P1
 use Rattle.sentences.specs.Rules.{same_ruling, same_bus}
 use Rattle.sentences.specs.Ticks.{record_status}

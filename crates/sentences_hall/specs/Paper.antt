@@ -14,7 +14,7 @@ use Rattle.line.specs.Text.{text}
 use Rattle.hall.specs.Hall.{Call, give, tick}
 use Rattle.hall.specs.Quota.{hall_ticked}
 use Rattle.hall.specs.Turns.{Given, bytes, hall_tick, hall_after}
-use Rattle.sentences.specs.Words.{◌is◌, ◌isNot◌, ◌exceeds◌, between, some_of, Condition, choose, first_that_fits}
+use Rattle.sentences.specs.Words.{◌is◌, ◌is_not◌, ◌exceeds◌, between, some_of, Condition, choose, first_that_fits}
 use Rattle.sentences.specs.Paper as P1
 use Rattle.sentences_claim.specs.Paper as S
 

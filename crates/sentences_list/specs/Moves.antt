@@ -13,7 +13,7 @@ use Rattle.rules.specs.declared.Commands.{Commands}
 use Rattle.rules.specs.Rank as Rank
 use Rattle.rules.specs.Report.{status}
 use Rattle.history.specs.Readings as R
-use Rattle.sentences.specs.Words.{◌is◌, ◌isNot◌, ◌exceeds◌, choose, first_that_fits}
+use Rattle.sentences.specs.Words.{◌is◌, ◌is_not◌, ◌exceeds◌, choose, first_that_fits}
 use Rattle.sentences.specs.Paper as P
 use Rattle.sentences.specs.Rules.{same_ruling, same_target}
 use Rattle.sentences.specs.Shows.{one, status_bits}
