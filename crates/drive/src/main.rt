@@ -7,10 +7,8 @@ ghost use Rattle.std.specs.Io.{ReadsAtMost};
 
 use damper::Drive;
 use printer::Session;
-use std::fmt;
-use std::io;
 use std::io::{ErrorKind, Read, Write};
-use std::thread;
+use std::{fmt, io, thread};
 
 // How many records are answered with one write, and the bytes that they and their lines need.
 const RECORDS: usize = 1024;

@@ -4,7 +4,6 @@ use Rattle.std.proofs.Common.{sym, ◌∙◌}
 use Rattle.numbers.specs.Every.{Every, none, more}
 use Rattle.table.specs.Table.{rate}
 use Rattle.event.specs.Event.{event_in}
-use Rattle.rules.specs.Report.{sent}
 use Rattle.answer.specs.Answer.{number_of, word_of, code_of}
 use Rattle.damper.specs.Tick.{status_of}
 use Rattle.history.specs.Readings as R
