@@ -93,7 +93,7 @@ traced_snoc [] (p ∷ os) s o t e = absurd (omega arith)
 traced_snoc (x ∷ l) [] s o t e = absurd (omega arith)
 traced_snoc (x ∷ l) (p ∷ os) s o t e = traced_snoc l os s o (moment_of x p ∷ t) (omega arith)
 
-traced_only : {l : List (List ℕ)} {os : List Outcome} {first t : C.Trace} → S.Traced first l os t
+traced_only : {first : C.Trace} {l : List (List ℕ)} {os : List Outcome} {t : C.Trace} → S.Traced first l os t
     → (length os ≡ length l) × (C.trace_on first l os ≡ t)
 unfolding C.trace_on
 traced_only S.nothing = (refl, refl)
