@@ -25,8 +25,8 @@ fn main() {
         let archive = folder.join(format!("lib{name}.a"));
         if !archive.is_file() {
             eprintln!(
-                "{} is missing: run `rt staticlib {name}`, which writes it to target/staticlib, or set \
-                 {FOLDER} to the folder that has it",
+                "{} is missing: run `tools/archives`, which writes it to target/staticlib, or set {FOLDER} to \
+                 the folder that has it",
                 archive.display()
             );
             exit(1);

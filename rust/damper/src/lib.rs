@@ -5,9 +5,8 @@
 //! their numbers types and decides nothing.
 //!
 //! Cargo links them, and all of them have to be there, from the folder that the environment variable
-//! DAMPER_ARCHIVES names by an absolute path, or from the repository's target/staticlib, where `rt staticlib host`, `rt staticlib host_replay`,
-//! `rt staticlib host_audit`, `rt staticlib host_flow`, `rt staticlib hall_event`,
-//! `rt staticlib hall_tick`, `rt staticlib hall_page` and `rt staticlib hall_bill` write them.
+//! DAMPER_ARCHIVES names by an absolute path, or from the repository's target/staticlib, where `tools/archives`
+//! writes them.
 //!
 //! ```
 //! use damper::{Answer, Drive, Event, Parameter, Rank, Refusal, DRIVE_BYTES};
