@@ -1,4 +1,4 @@
-// The shift page of a hall for a host in C or Rust. An archive of its own.
+// The shift page for a host in C or Rust. `hall_page_c` exports it.
 #![tactic(auto)]
 
 ghost use Rattle.std.specs.Prelude.{◌≡◌, length};
@@ -7,8 +7,7 @@ ghost use Rattle.shift.specs.Shift.{page_refusal, page_after};
 use damper::Drive;
 
 // Writes a line for each drive of the row, in order. Refused by 14 or 17, it changes nothing.
-#[unsafe(no_mangle)]
-pub extern "C" fn damper_hall_page_layout3(row: &[Drive], page: &mut [u8]) -> u8
+pub fn damper_hall_page_layout3(row: &[Drive], page: &mut [u8]) -> u8
     ensures { (result ≡ page_refusal (length row.now) (length page.old))
         × (row.now ≡ row.now)
         × (page.new ≡ page_after row.now page.old) }

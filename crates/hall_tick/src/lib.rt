@@ -1,4 +1,4 @@
-// The hall tick for a host in C or Rust. An archive of its own, in which each part of a drive's tick has one call site.
+// The hall tick for a host in C or Rust. `hall_tick_c` exports it, in an archive in which each part of a drive's tick has one call site.
 #![tactic(auto)]
 
 ghost use Rattle.std.specs.Prelude.{◌≡◌, false, ◌+◌, ◌*◌, ◌<◌, length};
@@ -53,8 +53,7 @@ fn send_one(d: Drive) -> Held
 
 // Ticks each drive of the row and fills one number for each. Of those that are due it sends as many as the quota, or all, the longest wait
 // first and the lower number among equals. Refused by 14, 16 or 18, it changes nothing.
-#[unsafe(no_mangle)]
-pub extern "C" fn damper_hall_tick_layout3(row: &mut [Drive], quota: u32, numbers: &mut [u32]) -> u8
+pub fn damper_hall_tick_layout3(row: &mut [Drive], quota: u32, numbers: &mut [u32]) -> u8
     ensures { (result ≡ call_refusal (length row.old) (tick quota (length numbers.old)))
         × (row.new ≡ row_after hall_step row.old (turns_of row.old (tick quota (length numbers.old))))
         × (numbers.new ≡ answers_after hall_step row.old (tick quota (length numbers.old)) numbers.old) }
