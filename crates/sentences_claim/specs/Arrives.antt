@@ -5,7 +5,6 @@ use Rattle.std.proofs.Common.{◌∙◌, arith, lt_of_mul-lt-mul_right, eqb-true
 use Rattle.std.proofs.lemmas.Bool.{false≢true}
 use mathlib.Core.List.{List, [], ◌∷◌}
 use Rattle.std.proofs.Math.ListN.{get_or}
-use Rattle.numbers.specs.Numbers.{pick}
 use Rattle.numbers.specs.Laws.{cases, and_left, and_right, and_intro}
 use Rattle.numbers.specs.Every.{Every, none, more}
 use Rattle.table.specs.Table.{rate}

@@ -14,7 +14,7 @@ use Rattle.event.specs.Event.{event_in, data_refusal}
 use Rattle.event.specs.Laws.{record_passed}
 use Rattle.motion.specs.Motion.{toward}
 use Rattle.motion.specs.Laws.{move_distance, move_left}
-use Rattle.rules.specs.Report.{changed, Sent, silent, sent, differs, report_due}
+use Rattle.rules.specs.Report.{changed, Sent, sent, differs, report_due}
 use Rattle.rules.specs.RefusalLaws.{refusal_passed}
 use Rattle.answer.specs.Answer.{number_of}
 use Rattle.damper.specs.declared.Drive.{Drive}

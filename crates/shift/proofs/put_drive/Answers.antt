@@ -22,14 +22,12 @@ put_bytes-requires c = omega (arith, right_length 2 (decimal c.args.number))
 pub returns-then-well_formed : goal.returns-then-well_formed
 unfolding drive_line
 returns-then-well_formed c =
-    let s = c in
     let fields = rw (c.ruling.ensures.value, c.status.ensures) at c.put_fields.ensures in
     rw (sym c.well_formed-2.ensures ∙ c.if-well_formed.true)
-    (after_that c.put_right-rest.ensures fields (omega (arith, right_length 2 (decimal s.args.number))))
+    (after_that c.put_right-rest.ensures fields (omega (arith, right_length 2 (decimal c.args.number))))
 
 pub returns-else-well_formed : goal.returns-else-well_formed
 unfolding drive_line
 returns-else-well_formed c =
-    let s = c in
     rw (sym c.well_formed-2.ensures ∙ c.if-well_formed.false)
-    (after_that c.put_right-rest.ensures c.put_bytes.ensures (omega (arith, right_length 2 (decimal s.args.number))))
+    (after_that c.put_right-rest.ensures c.put_bytes.ensures (omega (arith, right_length 2 (decimal c.args.number))))

@@ -16,9 +16,8 @@ put_decimal-requires c =
 
 pub returns : goal.returns
 returns c =
-    let s = c in
-    let columns = s.args.columns in
-    let n = s.args.n in
+    let columns = c.args.columns in
+    let n = c.args.n in
     let blanks = rw c.digits.ensures at c.put_blanks-first.ensures in
-    rw (right_is columns (decimal n) s.requires.n_len_bound.0)
+    rw (right_is columns (decimal n) c.requires.n_len_bound.0)
     (after_that blanks c.put_decimal.ensures (omega (arith, length-replicate {A = ℕ} (columns - length (decimal n)) 32)))
