@@ -1,5 +1,5 @@
 -- Proofs: how a bill is shared over the hall.
-use Rattle.std.specs.Prelude.{◌≡◌, refl, Bool, true, false, not, ◌||◌, List, [], ◌∷◌, ℕ, zero, suc, ◌+◌, ◌-◌, ◌*◌, ◌/◌, ◌≤◌, ◌<◌, ltb, eqb, length, get_or}
+use Rattle.std.specs.Prelude.{◌≡◌, refl, Bool, true, false, not, ◌||◌, List, [], ◌∷◌, ℕ, zero, suc, ◌+◌, ◌*◌, ◌/◌, ◌≤◌, ◌<◌, ltb, eqb, length, get_or}
 use Rattle.std.proofs.Common.{sym, ap, ◌∙◌, arith, mul_comm, le-div_iff_mul-le, div-lt_iff_lt-mul, ltb-true, ltb-false, ne_eqb}
 use Rattle.std.proofs.Math.Nat.{mod-eq-sub-div-mul, div-eq_of_lt-le}
 use Rattle.numbers.specs.Numbers.{pick, distance}
@@ -15,7 +15,7 @@ use Rattle.bill.specs.Bill.{count_in, total_of, part, remainder, left_over, gets
 use Rattle.bill.specs.Laws.{shares_length, share_at, parts_most, gets_count}
 use Rattle.hall_bill.specs.HallBill.{travels, bill_refusal, shares_after}
 use Rattle.hall_bill.specs.Laws.{accepted, accepted_shares, refused_same, shares_add_up, share_off, counts_only, counts_only_shares}
-use Rattle.sentences.specs.Words.{◌is◌, ◌is_not◌, ◌exceeds◌, some_of, choose, first_that_fits}
+use Rattle.sentences.specs.Words.{◌is_not◌, ◌exceeds◌, some_of, choose, first_that_fits}
 use Rattle.sentences.specs.Refusals.{same_choice}
 use Rattle.sentences_hall.specs.Paper as P
 use Rattle.sentences_hall.specs.Refused.{same_row}

@@ -2,7 +2,7 @@
 -- that it is for one thing, on the record that stood there when the call began, and the others nothing; one that is refused gives nothing.
 -- So the event records of a share are decided by the calls and the number of drives. And lists of calls without repeats do what W-201's
 -- definition has them do.
-use Rattle.std.specs.Prelude.{◌≡◌, refl, Bool, true, ◌&&◌, List, [], ◌∷◌, ◌++◌, map, ℕ, ◌+◌, ◌<◌, length}
+use Rattle.std.specs.Prelude.{◌≡◌, refl, Bool, true, ◌&&◌, List, [], ◌∷◌, ◌++◌, map, ℕ, ◌<◌, length}
 use Rattle.std.proofs.Common.{sym, ap, ◌∙◌, append-nil, eqb-true}
 use Rattle.numbers.specs.Numbers.{pick}
 use Rattle.numbers.specs.Laws.{cases}

@@ -1,6 +1,6 @@
 -- For every row of drives and every list of calls: a place ends with the drive, and its turns got the answers, that the list of its share
 -- gives to the drive that stood there. Before that, the share of two lists.
-use Rattle.std.specs.Prelude.{◌≡◌, refl, List, [], ◌∷◌, ◌++◌, ℕ, ◌+◌, ◌<◌, eqb, length}
+use Rattle.std.specs.Prelude.{◌≡◌, refl, List, [], ◌∷◌, ◌++◌, ℕ, ◌<◌, eqb, length}
 use Rattle.std.proofs.Common.{sym, ◌∙◌, append_assoc, lt-length-set, eqb-true, ne_eqb}
 use Rattle.std.proofs.lemmas.Bool.{eqb-false}
 use Rattle.numbers.specs.Laws.{cases}
