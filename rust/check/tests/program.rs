@@ -17,7 +17,7 @@ fn start() -> Child {
         .stdin(Stdio::piped())
         .stdout(Stdio::piped())
         .spawn()
-        .expect("target/bin/drive is there after `rt ci`")
+        .expect("target/bin/drive is there after `tools/archives`")
 }
 
 /// What the program prints for these bytes.
