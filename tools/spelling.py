@@ -61,7 +61,9 @@ OTHERWISE = {
 
 
 def snake(name):
-    return re.sub(r"(?<=[a-z0-9'])([A-Z])|(?<=[A-Z])([A-Z])(?=[a-z])", lambda m: "_" + m.group(0).lower(), name).replace("-", "_").lower() if CAMEL.fullmatch(name) else name.replace("-", "_")
+    if not CAMEL.fullmatch(name):
+        return name.replace("-", "_")
+    return re.sub(r"(?<=[a-z0-9'])[A-Z]|(?<=[A-Z])[A-Z](?=[a-z])", lambda m: "_" + m.group(0), name).lower()
 
 
 def is_old(name):
@@ -76,12 +78,10 @@ def head(text, at):
     return text[start:at].rstrip(".")
 
 
-def blank(text, comments=True):
-    """The text with strings, and comments too, as spaces of the same length."""
+def blank(text):
+    """The text with strings and comments as spaces of the same length."""
     text = re.sub(r'"(?:\\.|[^"\\\n])*"', lambda m: " " * len(m.group(0)), text)
-    if comments:
-        text = re.sub(r"(?m)(?:(?<=\s)|^)--.*$", lambda m: " " * len(m.group(0)), text)
-    return text
+    return re.sub(r"(?m)(?:(?<=\s)|^)--.*$", lambda m: " " * len(m.group(0)), text)
 
 
 def read(path):

@@ -1,4 +1,4 @@
-//! Program `drive`, as `rt ci` builds it, through its standard input and output.
+//! Program `drive`, as `tools/archives` builds it, through its standard input and output.
 
 use damper_check::cases::CASES;
 use damper_check::gen::records;
