@@ -158,6 +158,7 @@ impl FlowRecord {
         self
     }
 
+    #[tactic(auto, unfolding(crate::specs::Flow::due_by))]
     fn due(self, x: f32) -> bool
         ensures { result ≡ due_at self x }
     {

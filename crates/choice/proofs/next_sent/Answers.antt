@@ -4,7 +4,7 @@ use mathlib.Core.Path.{◌≡◌}
 use mathlib.Core.Bool.{false}
 use native.Mathlib.Omega.{arith}
 use lib.Dec.{eqb}
-use borrow.Author.Tests.{le-leb, lt-leb, eqb-true, eqb-false}
+use borrow.Author.Tests.{lt-leb, eqb-true, eqb-false}
 use Rattle.numbers.specs.Laws.{cases}
 use Rattle.choice.specs.Sent.{report_at}
 use Rattle.choice.proofs.next_sent.Goals as goal
@@ -12,15 +12,10 @@ use Rattle.choice.proofs.next_sent.Goals as goal
 pub loop-i-init : goal.loop-i-init
 loop-i-init c = (search rules, search rules, λ j l k. absurd (omega arith))
 
-pub returns-then-numbers-i-ge-REPORT : goal.returns-then-numbers-i-ge-REPORT
-returns-then-numbers-i-ge-REPORT c =
-    let l = c.loop-i in
-    record { least = l.invariant.0; most = l.invariant.1; none = l.invariant.2; found = λ h. le-leb _ _ c.if-numbers-i-ge-REPORT.true }
-
 pub loop-i-preserved : goal.loop-i-preserved
 loop-i-preserved c =
     let l = c.loop-i in
-    let here : report_at c.args.numbers.now l.i ≡ false = lt-leb _ _ c.if-numbers-i-ge-REPORT.false in (
+    let here : report_at c.args.numbers.now l.i ≡ false = lt-leb _ _ (omega arith) in (
       search rules,
       search rules,
       λ j a b. cases (eqb j l.i) (λ e. rw (eqb-true j l.i e) here) (λ e. let n = eqb-false j l.i e in l.invariant.2 j a (omega arith)),
