@@ -1,8 +1,8 @@
 #!/usr/bin/env python3
-"""Brings the repository's own names to the spelling of Rattle's kit 13: definitions, lemmas, fields and constructors in snake case, types and
-modules in camel case. It is run once, right after the kit's port.py.
+"""Brings the repository's own names to the spelling of Rattle's kit 13: definitions, lemmas, fields and constructors in snake case, types
+and modules in camel case. It is run once, right after the kit's port.py.
 
-usage: python3 tools/spelling.py            at the top of the repository: rewrites crates/, README.md, CONTRIBUTING.md, CHANGELOG.md and docs/
+usage: python3 tools/spelling.py            at the top of the repository: rewrites crates/, the pages at the top and docs/
        python3 tools/spelling.py --names    prints each old name beside its new one, and changes nothing
 
 A name that a library declares keeps its spelling, and so does one that Rattle makes for a proof. Of two names that would fall together the
@@ -110,7 +110,8 @@ def imports(text, own):
     for m in USE.finditer(text):
         parts = m.group(1).split(".")
         # What Rattle makes for a function's proof stands below proofs.F or specs.declared.
-        mine = parts[0] == "Rattle" and len(parts) > 2 and parts[1] in own and not (parts[2] == "proofs" and len(parts) > 4) and "declared" not in parts
+        made = (parts[2:3] == ["proofs"] and len(parts) > 4) or "declared" in parts
+        mine = parts[0] == "Rattle" and len(parts) > 2 and parts[1] in own and not made
         names = [n.strip().split(" as ")[0].strip() for n in (m.group(2) or m.group(4) or "").split(",") if n.strip()]
         (ours if mine else lib).update(names)
         if m.group(3) or not (m.group(2) or m.group(4)):
@@ -195,7 +196,8 @@ def rewrite_source(path, names):
 
 def rewrite_quoted(text, names, path=""):
     """Names of the repository that stand in back quotes, in a comment or a page."""
-    return re.sub(r"`([^`\n]+)`", lambda q: "`" + TOKEN.sub(lambda m: new_name(path, m.group(0)) if m.group(0) in names else m.group(0), q.group(1)) + "`", text)
+    respelled = lambda m: new_name(path, m.group(0)) if m.group(0) in names else m.group(0)
+    return re.sub(r"`([^`\n]+)`", lambda q: "`" + TOKEN.sub(respelled, q.group(1)) + "`", text)
 
 
 def main():
@@ -223,7 +225,8 @@ def main():
         sys.exit("names fall together: nothing was changed")
     new = {path: rewrite(path, own) for path in antt_files()}
     new.update({path: rewrite_source(path, names) for path in sources})
-    pages = [p for p in ["README.md", "CONTRIBUTING.md", "CHANGELOG.md"] + sorted(glob.glob("docs/**/*.md", recursive=True)) if os.path.exists(p)]
+    pages = [p for p in ("README.md", "CONTRIBUTING.md", "CHANGELOG.md") if os.path.exists(p)]
+    pages += sorted(glob.glob("docs/**/*.md", recursive=True))
     for path in pages:
         new[path] = read(path)
     for path in new:

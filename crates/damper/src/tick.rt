@@ -11,6 +11,7 @@ use numbers::{next16, pick8, pick16};
 
 impl Run {
     // Step 3.
+    #[tactic(auto, unfolding(crate::specs::Tick::ran_down))]
     fn ran_down(self) -> Run
         ensures { result ≡ ran_down self }
     {

@@ -32,7 +32,6 @@ fn note_one(shares: &mut [u32], place: usize, tally: u64, d: Drive) -> u64
 // Shares the bill, in cents, out by the travel of the drives, one share for each. Refused by 14, 20 or 21, it changes nothing.
 pub fn damper_hall_bill_layout3(row: &[Drive], bill: u64, shares: &mut [u32]) -> u8
     ensures { (result ≡ bill_refusal row.now bill (length shares.old))
-        × (row.now ≡ row.now)
         × (shares.new ≡ shares_after row.now bill shares.old) }
 {
     let first = judged(row.len(), bill, shares.len());

@@ -6,11 +6,9 @@ ghost use Rattle.hall_bill.specs.HallBill.{bill_refusal, shares_after};
 
 use damper::Drive;
 
-// Shares the bill, in cents, out by the travel of the drives, one share for each. Refused by 14, 20 or 21, it changes nothing.
 #[unsafe(no_mangle)]
 pub extern "C" fn damper_hall_bill_layout3(row: &[Drive], bill: u64, shares: &mut [u32]) -> u8
     ensures { (result ≡ bill_refusal row.now bill (length shares.old))
-        × (row.now ≡ row.now)
         × (shares.new ≡ shares_after row.now bill shares.old) }
 {
     hall_bill::damper_hall_bill_layout3(row, bill, shares)

@@ -9,7 +9,6 @@ use damper::Drive;
 // Writes a line for each drive of the row, in order. Refused by 14 or 17, it changes nothing.
 pub fn damper_hall_page_layout3(row: &[Drive], page: &mut [u8]) -> u8
     ensures { (result ≡ page_refusal (length row.now) (length page.old))
-        × (row.now ≡ row.now)
         × (page.new ≡ page_after row.now page.old) }
 {
     let refusal = shift::page_refusal(row.len(), page.len());

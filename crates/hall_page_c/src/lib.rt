@@ -6,11 +6,9 @@ ghost use Rattle.shift.specs.Shift.{page_refusal, page_after};
 
 use damper::Drive;
 
-// Writes a line for each drive of the row, in order. Refused by 14 or 17, it changes nothing.
 #[unsafe(no_mangle)]
 pub extern "C" fn damper_hall_page_layout3(row: &[Drive], page: &mut [u8]) -> u8
     ensures { (result ≡ page_refusal (length row.now) (length page.old))
-        × (row.now ≡ row.now)
         × (page.new ≡ page_after row.now page.old) }
 {
     hall_page::damper_hall_page_layout3(row, page)

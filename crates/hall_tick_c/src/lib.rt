@@ -7,8 +7,6 @@ ghost use Rattle.hall.specs.Turns.{turns_of, row_after, answers_after, hall_step
 
 use damper::Drive;
 
-// Ticks each drive of the row and fills one number for each. Of those that are due it sends as many as the quota, or all, the longest wait
-// first and the lower number among equals. Refused by 14, 16 or 18, it changes nothing.
 #[unsafe(no_mangle)]
 pub extern "C" fn damper_hall_tick_layout3(row: &mut [Drive], quota: u32, numbers: &mut [u32]) -> u8
     ensures { (result ≡ call_refusal (length row.old) (tick quota (length numbers.old)))

@@ -19,15 +19,13 @@ returns-then-total-eq0 c =
 
 pub settle-requires : goal.settle-requires
 settle-requires c =
-    let s = c in
     let some = c.if-total-eq0.false in
-    subst (λ (t : List ℕ). Shareable s.args.bill t (s.args.tally / 128)) (sym c.cover.ensures)
-    (s.requires c.if-refusal-ne0.false (omega (arith, some)))
+    subst (λ (t : List ℕ). Shareable c.args.bill t (c.args.tally / 128)) (sym c.cover.ensures)
+    (c.requires c.if-refusal-ne0.false (omega (arith, some)))
 
 pub returns : goal.returns
 returns c =
-    let covered = c in
-    let a = covered.args in
-    let e = eq-eqb a.refusal 0 covered.if-refusal-ne0.false in
-    let z = ne_eqb (a.tally / 128) 0 covered.if-total-eq0.false in
-    (rw (e, z), c.settle.ensures ∙ rw (e, z) (ap (shares a.bill) covered.cover.ensures))
+    let a = c.args in
+    let e = eq-eqb a.refusal 0 c.if-refusal-ne0.false in
+    let z = ne_eqb (a.tally / 128) 0 c.if-total-eq0.false in
+    (rw (e, z), c.settle.ensures ∙ rw (e, z) (ap (shares a.bill) c.cover.ensures))

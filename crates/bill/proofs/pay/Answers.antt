@@ -11,9 +11,8 @@ loop-i-init c = (omega arith, refl, change_start _ _)
 pub overflow_add-part : goal.overflow_add-part
 overflow_add-part c =
     let l = c.loop-i in
-    let s = c in
-    let here = change_old _ s.args.row.now l.row l.i l.invariant.2 (omega arith) in
-    let small = s.requires.1 l.i (omega arith) in
+    let here = change_old _ c.args.row.now l.row l.i l.invariant.2 (omega arith) in
+    let small = c.requires.1 l.i (omega arith) in
     omega (arith, here, small)
 
 pub loop-i-preserved : goal.loop-i-preserved

@@ -43,12 +43,11 @@ loop-high-preserved c =
 pub returns : goal.returns
 returns c =
     let l = c.loop-high in
-    let s = c in
-    let number = number_in s.args.numbers.now in
-    let n = s.args.drives in
+    let number = number_in c.args.numbers.now in
+    let n = c.args.drives in
     let one =
     count_one number n (l.low + 1)
-    (λ i j k m e f. s.requires.0.once i j k m (le-leb 65536 (number i) (omega (arith, e, l.invariant.0))) (e ∙ sym f)) in
+    (λ i j k m e f. c.requires.0.once i j k m (le-leb 65536 (number i) (omega (arith, e, l.invariant.0))) (e ∙ sym f)) in
     let end : l.high ≡ l.low + 1 =
     cases (eqb l.high l.low)
     (λ e. absurd (omega (arith, l.invariant.2, rw (eqb-true l.high l.low e) at l.invariant.3)))

@@ -11,9 +11,8 @@ names_twice-requires c =
 pub returns-then-first-eq0 : goal.returns-then-first-eq0
 unfolding call_refusal
 returns-then-first-eq0 c =
-    let judged = c in
-    let a = judged.args in
-    let none = sym judged.first_refusal-first.ensures ∙ c.if-first-eq0.true in
+    let a = c.args in
+    let none = sym c.first_refusal-first.ensures ∙ c.if-first-eq0.true in
     simp c.names_twice.ensures at c.pick8.ensures
     ∙ sym (asked_after a.drives a.list.now a.s.now a.places _ none)
 

@@ -5,11 +5,10 @@ use Rattle.hall.proofs.first_refusal.Goals as goal
 
 pub returns : goal.returns
 returns c =
-    let judged = c in
-    let a = judged.args in
+    let a = c.args in
     let number = bad_number a.drives a.list.now in
     let given = bad_event a.list.now a.s.now a.places in
     let first : c.pick8-2.result ≡ pick number 15 (pick given 16 0) =
-    simp (c.pick8.ensures, judged.is_tick.ensures, judged.bad_number-number.ensures)
+    simp (c.pick8.ensures, c.is_tick.ensures, c.bad_number-number.ensures)
     at c.pick8-2.ensures in
-    simp (first, judged.bad_row-row.ensures) at c.pick8-3.ensures
+    simp (first, c.bad_row-row.ensures) at c.pick8-3.ensures

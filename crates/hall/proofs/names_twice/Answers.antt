@@ -25,8 +25,7 @@ loop-k-init c = (omega arith, refl, no_flag)
 
 pub flag-requires : goal.flag-requires
 flag-requires c =
-    let begun = c in
-    small begun.args.list.now _ _ begun.requires c.loop-k-test.true c.entry-number.ensures
+    small c.args.list.now _ _ c.requires c.loop-k-test.true c.entry-number.ensures
 
 pub returns-then-flag : goal.returns-then-flag
 returns-then-flag c =
@@ -38,8 +37,7 @@ returns-then-flag c =
 
 pub with_flag-met-requires : goal.with_flag-met-requires
 with_flag-met-requires c =
-    let begun = c in
-    small begun.args.list.now _ _ begun.requires c.loop-k-test.true c.entry-number.ensures
+    small c.args.list.now _ _ c.requires c.loop-k-test.true c.entry-number.ensures
 
 pub loop-k-preserved : goal.loop-k-preserved
 loop-k-preserved c =

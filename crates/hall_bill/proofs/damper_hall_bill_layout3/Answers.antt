@@ -1,4 +1,4 @@
-use Rattle.std.proofs.Common.{◌≡◌, ℕ, ◌+◌, ◌*◌, ◌<◌, ◌≤◌, List, get_or, refl, sym, ◌∙◌, arith}
+use Rattle.std.proofs.Common.{◌≡◌, ℕ, ◌+◌, ◌*◌, ◌<◌, ◌≤◌, List, get_or, sym, ◌∙◌, arith}
 use Rattle.std.specs.Prelude.{◌^◌}
 use Rattle.std.proofs.lemmas.List.{get_or_default}
 use Rattle.damper.specs.declared.Drive.{Drive}
@@ -58,6 +58,5 @@ returns c =
     let all : l.i ≡ c.turns-stop.result = omega arith in
     let told = rw (l.invariant.2, l.invariant.3, all) at c.finish-refusal.ensures in (
       refusal_end a.row.now a.shares.now a.bill _ _ c.judged-first.ensures c.turns-stop.ensures _ told.0,
-      refl,
       shares_end a.row.now a.shares.now a.bill _ _ c.judged-first.ensures c.turns-stop.ensures _ told.1,
     )

@@ -43,4 +43,4 @@ returns c =
     let a = c.args in
     let l = c.loop-i in
     let w = known a.row.now a.page.now _ _ c.page_refusal-refusal.ensures c.turns-stop.ensures in
-    (c.page_refusal-refusal.ensures, refl, l.invariant.2 ∙ page_end a.row.now a.page.now w l.i (omega arith))
+    (c.page_refusal-refusal.ensures, l.invariant.2 ∙ page_end a.row.now a.page.now w l.i (omega arith))

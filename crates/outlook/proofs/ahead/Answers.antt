@@ -23,23 +23,21 @@ advance-m-requires c =
 pub target-requires : goal.target-requires
 unfolding aged
 target-requires c =
-    let ruled = c in
-    let w = sym ruled.well_formed-2.ensures ∙ ruled.if-not-well_formed.false in
-    record { ranges = rw ruled.aged-a.ensures (wf_ranges _ w); rank_bound = ruled.ruling-rank.ensures.bound }
+    let w = sym c.well_formed-2.ensures ∙ c.if-not-well_formed.false in
+    record { ranges = rw c.aged-a.ensures (wf_ranges _ w); rank_bound = c.ruling-rank.ensures.bound }
 
 pub returns : goal.returns
 unfolding outlook_of
 returns c =
-    let ruled = c in
-    let w = ruled.well_formed-2 in
-    let d = ruled.args.d in
+    let w = c.well_formed-2 in
+    let d = c.args.d in
     let a = aged d in
-    rw (← w.ensures, ruled.if-not-well_formed.false)
+    rw (← w.ensures, c.if-not-well_formed.false)
     (simp (
       c.target.ensures,
       c.changed-changed.ensures,
       c.status-status.ensures,
       c.advance-m.ensures,
-      ruled.ruling-rank.ensures.value,
-      ruled.aged-a.ensures,
+      c.ruling-rank.ensures.value,
+      c.aged-a.ensures,
     ) (refl {a = outlook_after (ruling a) (target_at a (ruling a)) (advance d).drive}))

@@ -21,11 +21,10 @@ loop-i-preserved c =
     let more = c.one_more-count in
     let step = c.step_if-o in
     let size = c.min_size in
-    let g = c in
     let room = c.loop-i-test.true in
     let some = c.if-left-eq0.false in
-    let d = g.loop-i.d in
-    let l = g.loop-i.invariant in (
+    let d = c.loop-i.d in
+    let l = c.loop-i.invariant in (
       l.0 ++ (step.result ∷ []),
       turn l.1 (omega (arith, room)) (omega (arith, some)) size.ensures step.ensures,
       line_more step.result (omega (arith, room)) more.ensures put.ensures.end put.ensures.bytes l.2,

@@ -9,15 +9,14 @@ slice_bounds-print_answers-end-2 c = simp length-take (omega (arith, c.requires.
 
 pub returns : goal.returns
 returns c =
-    let start = c in
-    let a = start.args in
+    let a = c.args in
     let waits = c.waiting-part in
     let p = c.print_answers-p in
     let rest = c.keep_rest in
     let input = a.input.now in
-    let law = turn_answered input a.out.now a.have a.ended waits.result start.requires.have_in_bounds waits.ensures.value waits.ensures.bound.0 start.requires.have_bound in
-    let kept = turn_kept input a.out.now a.have a.ended waits.result start.requires.have_in_bounds waits.ensures.value waits.ensures.bound.0 in
-    let count = turn_count input a.out.now a.have a.ended waits.result start.requires.have_in_bounds waits.ensures.value waits.ensures.bound.0 in
+    let law = turn_answered input a.out.now a.have a.ended waits.result c.requires.have_in_bounds waits.ensures.value waits.ensures.bound.0 c.requires.have_bound in
+    let kept = turn_kept input a.out.now a.have a.ended waits.result c.requires.have_in_bounds waits.ensures.value waits.ensures.bound.0 in
+    let count = turn_count input a.out.now a.have a.ended waits.result c.requires.have_in_bounds waits.ensures.value waits.ensures.bound.0 in
     rw (← law, count, kept)
     record {
       drive = p.ensures.drive;

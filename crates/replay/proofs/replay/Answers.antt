@@ -21,12 +21,11 @@ pub loop-i-preserved : goal.loop-i-preserved
 loop-i-preserved c =
     let step = c.step_if-o in
     let size = c.min_size in
-    let g = c in
-    let l = g.loop-i in
+    let l = c.loop-i in
     let more = c.loop-i-test.true in
-    let room = g.min_size-room.ensures in
+    let room = c.min_size-room.ensures in
     let some = c.if-left-eq0.false in
-    let a = g.args in (
+    let a = c.args in (
       l.invariant.0 ++ (step.result ∷ []),
       turn l.invariant.1 (omega (arith, more, room)) (omega (arith, some)) size.ensures step.ensures,
       search rules,
@@ -40,9 +39,8 @@ loop-i-preserved c =
 pub returns-after-loop-i : goal.returns-after-loop-i
 returns-after-loop-i c =
     let l = c.loop-i.invariant in
-    let g = c in
-    let d = g.args.d in
-    rw (← outcomes_length step_of d _, full l.1 (omega (arith, g.min_size-room.ensures))) record { drive = l.1.drive; count = l.1.count; words = l.4; codes = l.5 }
+    let d = c.args.d in
+    rw (← outcomes_length step_of d _, full l.1 (omega (arith, c.min_size-room.ensures))) record { drive = l.1.drive; count = l.1.count; words = l.4; codes = l.5 }
 
 -- no bytes are left
 pub returns-then-left-eq0 : goal.returns-then-left-eq0

@@ -4,10 +4,9 @@ use Rattle.audit.proofs.Audit.findings.Goals as goal
 pub returns : goal.returns
 unfolding findings_of
 returns c =
-    let known = c in
     simp (
-      known.changed-changed.ensures,
-      known.counted-apart.ensures,
-      known.counted-since.ensures,
-      known.status-status.ensures,
+      c.changed-changed.ensures,
+      c.counted-apart.ensures,
+      c.counted-since.ensures,
+      c.status-status.ensures,
     )

@@ -14,14 +14,13 @@ advance-a-requires c =
 pub returns : goal.returns
 unfolding met_by
 returns c =
-    let before = c in
-    let given = before.args in
+    let given = c.args in
     simp (
       c.code.ensures,
       c.word.ensures,
-      before.advance-a.ensures,
-      before.with_position.ensures,
-      before.kind_in-kind.ensures,
-      before.said_in-said.ensures,
-      before.step_if-o.ensures,
+      c.advance-a.ensures,
+      c.with_position.ensures,
+      c.kind_in-kind.ensures,
+      c.said_in-said.ensures,
+      c.step_if-o.ensures,
     ) (refl {a = met_by given.self given.s.now})

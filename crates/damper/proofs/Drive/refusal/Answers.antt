@@ -12,8 +12,7 @@ returns-then-not-formed c = rw (← c.requires, c.if-not-formed.true)
 pub returns-then-n-ne0 : goal.returns-then-n-ne0
 unfolding refusal_of refusal
 returns-then-n-ne0 c =
-    let start = c in
-    rw (← start.requires, c.if-not-formed.false)
+    rw (← c.requires, c.if-not-formed.false)
     (rw (← c.refusal-n.ensures, ne_eqb c.refusal-n.result 0 c.if-n-ne0.true))
 
 pub event_in-requires : goal.event_in-requires
@@ -22,8 +21,7 @@ event_in-requires c = (record_passed _ (sym c.refusal-n.ensures ∙ c.if-n-ne0.f
 pub returns : goal.returns
 unfolding refusal_of refusal
 returns c =
-    let start = c in
     let n = c.refusal-n in
-    rw (← start.requires, c.if-not-formed.false)
+    rw (← c.requires, c.if-not-formed.false)
     (rw (← n.ensures, eq-eqb n.result 0 c.if-n-ne0.false)
     (rw (c.state_refusal.ensures, c.forbids_run.ensures, c.event_in.ensures)))
