@@ -1,5 +1,8 @@
--- An answer is found again by its two numbers.
-use Rattle.std.specs.Prelude.{◌≡◌, refl, ℕ, zero, suc, ◌+◌, ◌*◌, ◌/◌, ◌%◌, ◌<◌}
+-- An answer is found again by its two numbers; what a test lets pass.
+use Rattle.std.specs.Prelude.{◌≡◌, refl, ℕ, zero, suc, ◌+◌, ◌*◌, ◌/◌, ◌%◌, ◌<◌, Bool, true, false, Ok, Err}
+use Rattle.numbers.specs.Numbers.{pick}
+use Rattle.answer.specs.declared.refusal.Refusal.{Refusal}
+use Rattle.answer.specs.Refusal.{number, refused_by}
 use Rattle.std.proofs.Common.{arith}
 use Rattle.answer.specs.declared.Answer.{Answer}
 use Rattle.answer.specs.declared.Answer.TheVariants.{No, Done, Par, At, Tick, Report}
@@ -47,3 +50,12 @@ answer_fits (suc (suc zero)) n = omega arith
 answer_fits (suc (suc (suc zero))) n = omega arith
 answer_fits (suc (suc (suc (suc zero)))) n = omega arith
 answer_fits (suc (suc (suc (suc (suc w))))) n = omega arith
+
+-- what is let pass by a test, and what the number is where it is the last
+pub let_pass : {A : Type 0} (t : Bool) (r : Refusal) (a b : A) → Ok a ≡ pick t (Err r) (Ok b) → t ≡ false
+let_pass true r a b h = cc
+let_pass false r a b h = refl
+
+pub number_picked : {A : Type 0} (t : Bool) (r : Refusal) (a : A) → refused_by (pick t (Err r) (Ok a)) ≡ pick t (number r) 0
+number_picked true r a = refl
+number_picked false r a = refl

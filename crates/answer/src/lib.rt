@@ -2,11 +2,18 @@
 #![tactic(auto)]
 
 ghost use Rattle.std.specs.Prelude.{◌≡◌, ◌%◌};
+ghost use Rattle.answer.specs.declared.Answer.TheVariants.{No};
+ghost use Rattle.answer.specs.Refusal.{number};
 ghost use Rattle.answer.specs.Answer.{word_of, code_of, answer_of};
+
+mod refusal;
+
+pub use refusal::{Refusal, refuse, refused_by};
 
 #[derive(Clone, Copy)]
 pub enum Answer {
     // Refused, by this number.
+    // Kept: no Refusal, since an audit hears the answers of any drive, and the definition `answer_of` takes any byte.
     No(u8),
     Done,
     // A parameter's value.
@@ -33,6 +40,7 @@ pub enum Answer {
 
 impl Answer {
     // The word of the answer's printed line as a number.
+    // Kept: word, code and of, with two numbers side by side, since these are what crosses to C, which no enum does.
     pub fn word(self) -> u8
         ensures { result ≡ word_of self }
     {
@@ -40,22 +48,9 @@ impl Answer {
             Answer::No(_) => 0,
             Answer::Done => 1,
             Answer::Par(_) => 2,
-            Answer::At {
-                position: _,
-                percent: _,
-                status: _,
-            } => 3,
-            Answer::Tick {
-                position: _,
-                rank: _,
-                motor: _,
-            } => 4,
-            Answer::Report {
-                position: _,
-                rank: _,
-                motor: _,
-                status: _,
-            } => 5,
+            Answer::At { .. } => 3,
+            Answer::Tick { .. } => 4,
+            Answer::Report { .. } => 5,
         }
     }
 
@@ -118,8 +113,18 @@ impl Answer {
 }
 
 // The last digit of base 256.
+// Kept: no to_be_bytes here and no from_be_bytes in code, since the edit percent_in_base_255 is about the base of the digits.
 fn byte(code: u32) -> u8
     ensures { result ≡ code % 256 }
 {
     (code % 256) as u8
+}
+
+// A refusal as an answer.
+impl From<Refusal> for Answer {
+    ghost from_gives = { λ r a. a ≡ No (number r) };
+
+    fn from(refusal: Refusal) -> Answer {
+        Answer::No(refusal.number())
+    }
 }

@@ -7,9 +7,10 @@ ghost use Rattle.numbers.specs.Numbers.{pick, next};
 ghost use Rattle.damper.specs.WellFormed.{well_formed};
 ghost use Rattle.audit.specs.Audit.{said_in, fresh_audit, met_by, findings_of, followed, audit_of};
 
-use answer::Answer;
-use damper::{Drive, Last, NO_REPORT};
-use numbers::{next16, pick16};
+use answer::{Answer, Refusal};
+use damper::{Drive, Formed, Last, NO_REPORT, Outcome};
+use event::Kind;
+use numbers::{next, pick};
 
 // What is kept from one event record to the next.
 #[repr(C)]
@@ -25,7 +26,7 @@ pub struct Audit {
 
 // Which sentences fail at an event record.
 #[repr(C)]
-#[derive(Clone, Copy)]
+#[derive(Clone, Copy, Default)]
 pub struct Findings {
     pub spacing: bool,
     pub waiting: bool,
@@ -41,6 +42,7 @@ pub struct Findings {
 }
 
 // The audit after an event record, 1 in place of 0 where its drive record is not well formed, and what was found.
+// Kept: no Result, and zeros where it is refused, since the C interface has this struct.
 #[repr(C)]
 #[derive(Clone, Copy)]
 pub struct Audited {
@@ -51,6 +53,8 @@ pub struct Audited {
 
 // What an answer says: the number of its refusal, the position that it shows or the one before, whether it is a report, and of which
 // status.
+// Kept: a number, and a flag beside the status, which the definitions `said_in` and `findings_of` hold apart, since any drive's number is
+// a byte, and five findings ask for the flag alone.
 #[derive(Clone, Copy)]
 pub struct Said {
     pub number: u8,
@@ -61,6 +65,7 @@ pub struct Said {
 
 // What document 01's drive makes of an event record: the drive after it, the refusal's number, whether a report is due and what is
 // answered; whether it is an accepted tick or restart; and where a tick would lead from the position that was last shown.
+// Kept: numbers and flags, which the definitions `met_by` and `findings_of` hold against the word and the code that C hands in.
 #[derive(Clone, Copy)]
 pub struct Met {
     pub drive: Drive,
@@ -73,86 +78,45 @@ pub struct Met {
     pub moved: u8,
 }
 
-const NOTHING: Findings = Findings {
-    spacing: false,
-    waiting: false,
-    moving: false,
-    position: false,
-    content: false,
-    othermove: false,
-    otherreport: false,
-    due: false,
-    refusal: false,
-    answer: false,
-};
-
 fn said_in(before: u8, answer: Answer) -> Said
     ensures { result ≡ said_in before answer }
 {
+    let nothing = Said {
+        number: 0,
+        position: before,
+        reports: false,
+        status: 0,
+    };
     match answer {
-        Answer::No(n) => Said {
-            number: n,
-            position: before,
-            reports: false,
-            status: 0,
-        },
-        Answer::Done => Said {
-            number: 0,
-            position: before,
-            reports: false,
-            status: 0,
-        },
-        Answer::Par(_) => Said {
-            number: 0,
-            position: before,
-            reports: false,
-            status: 0,
-        },
-        Answer::At {
+        Answer::No(number) => Said { number, ..nothing },
+        Answer::Done => nothing,
+        Answer::Par(_) => nothing,
+        Answer::At { position, .. } => Said {
             position,
-            percent: _,
-            status: _,
-        } => Said {
-            number: 0,
-            position: position,
-            reports: false,
-            status: 0,
+            ..nothing
         },
-        Answer::Tick {
+        Answer::Tick { position, .. } => Said {
             position,
-            rank: _,
-            motor: _,
-        } => Said {
-            number: 0,
-            position: position,
-            reports: false,
-            status: 0,
+            ..nothing
         },
         Answer::Report {
             position,
-            rank: _,
-            motor: _,
             status,
+            ..
         } => Said {
             number: 0,
-            position: position,
+            position,
             reports: true,
-            status: status,
+            status,
         },
     }
-}
-
-fn pick_last(c: bool, a: Last, b: Last) -> Last
-    ensures { result ≡ pick c a b }
-{
-    if c { a } else { b }
 }
 
 // A count that rises at a tick.
 fn counted(tick: bool, n: u16) -> u16
     ensures { result ≡ pick tick (next n) n }
 {
-    pick16(tick, next16(n), n)
+    pick(tick, next(n), n)
 }
 
 impl Audit {
@@ -167,30 +131,32 @@ impl Audit {
         }
     }
 
+    #[tactic(auto, unfolding(crate::specs::Audit::met_by))]
     fn met(self, s: &[u8]) -> Met
         requires { well_formed self.drive ≡ true }
         ensures { result ≡ met_by self s.now }
     {
         let d = self.drive;
-        let o = d.step_if(true, s);
-        let next = o.drive;
-        let answer = o.answer;
+        let Outcome { drive, answer } = d.step_if(true, s);
         let said = said_in(0, answer);
         let kind = event::kind_in(s);
-        let a = d.with_position(self.seen).advance();
-        let there = a.drive;
+        let shown = Formed {
+            drive: d.with_position(self.seen),
+        };
+        let there = shown.advance().drive;
         Met {
-            drive: next,
+            drive,
             number: said.number,
             reports: said.reports,
             word: answer.word(),
             code: answer.code(),
-            tick: (said.number == 0) & (kind == event::TICK),
-            restart: (said.number == 0) & (kind == event::RESTART),
+            tick: (said.number == 0) & matches!(kind, Some(Kind::Tick)),
+            restart: (said.number == 0) & matches!(kind, Some(Kind::Restart)),
             moved: there.position,
         }
     }
 
+    #[tactic(auto, unfolding(crate::specs::Audit::findings_of))]
     fn findings(self, m: Met, said: Said, word: u8, code: u32) -> Findings
         ensures { result ≡ findings_of self m said word code }
     {
@@ -215,12 +181,13 @@ impl Audit {
             content: reports & !same,
             othermove: !tick & (shown != self.seen),
             otherreport: !tick & reports,
-            due: tick & ((m.reports & !reports) | (!m.reports & reports)),
+            due: tick & (m.reports != reports),
             refusal: said.number != m.number,
             answer: !((word == m.word) & (code == m.code)),
         }
     }
 
+    #[tactic(auto, unfolding(crate::specs::Audit::followed))]
     fn followed(self, m: Met, said: Said) -> Audit
         ensures { result ≡ followed self m said }
     {
@@ -231,29 +198,30 @@ impl Audit {
         };
         let since = counted(m.tick, self.drive.since);
         let apart = counted(m.tick, self.apart);
-        let last = pick_last(
+        let last = pick(
             m.restart,
             NO_REPORT,
-            pick_last(said.reports, heard, self.drive.last),
+            pick(said.reports, heard, self.drive.last),
         );
         Audit {
             drive: m
                 .drive
-                .with_heard(pick16(said.reports | m.restart, 0, since), last),
+                .with_heard(pick(said.reports | m.restart, 0, since), last),
             seen: said.position,
-            apart: pick16(said.reports, 0, apart),
+            apart: pick(said.reports, 0, apart),
         }
     }
 
     // One event record, of any bytes, and the answer that it got.
+    #[tactic(auto, unfolding(crate::specs::Audit::audit_of))]
     pub fn hear(self, s: &[u8], answer: Answer) -> Audited
         ensures { result ≡ audit_of self s.now answer }
     {
         if !self.drive.well_formed() {
             return Audited {
                 audit: self,
-                refusal: 1,
-                findings: NOTHING,
+                refusal: Refusal::Record.number(),
+                findings: Findings::default(),
             };
         }
         let m = self.met(s);

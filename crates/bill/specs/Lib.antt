@@ -5,3 +5,4 @@ pub mod Laws
 pub mod Rows
 pub mod Settle
 pub mod Tally
+pub mod Counted

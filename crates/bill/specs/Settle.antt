@@ -8,7 +8,8 @@ use Rattle.numbers.specs.Laws.{cases}
 use Rattle.numbers.specs.Places.{tabulate}
 use Rattle.numbers.specs.PlaceLaws.{tab_length, tab_at, tab_same, count_most}
 use Rattle.order.specs.Order.{larger_first, anyone, rank}
-use Rattle.order.specs.Keys.{key_of, count_from, first_from, key_once, first_keyed}
+use Rattle.order.specs.Keys.{key_of, count_from, count_zero, count_past, first_from, key_once, first_keyed}
+use Rattle.order.specs.Search.{Bracketed}
 use Rattle.bill.specs.Sums.{sum_below, sum_each, sum_fewer, sum_more}
 use Rattle.bill.specs.Bill.{count_in, total_of, part, remainder, left_over, gets_one, shares}
 use Rattle.bill.specs.Laws.{parts_most, left_most}
@@ -51,6 +52,14 @@ pub record Sought (key : ℕ → ℕ) (drives most top : ℕ) : Type 0 where
   pub enough : most ≤ drives
   pub below : (i : ℕ) → i < drives → key i ≤ top
   pub once : (i j : ℕ) → i < drives → j < drives → key i ≡ key j → i ≡ j
+
+-- so many are as large as a number from 0 on, behind which `top` is
+pub bracketed : (key : ℕ → ℕ) (drives most top : ℕ) → Sought key drives most top → Bracketed key drives most 0 (top + 1)
+bracketed key drives most top s =
+    let all = count_zero key drives in
+    let none = count_past key drives (top + 1) (λ i l. let b = s.below i l in omega arith) in
+    let some = s.enough in
+    record { order = omega arith; enough = omega arith; few = omega arith; once = λ i j k l h e. s.once i j k l e }
 
 one_more : (b : Bool) (x : ℕ) → pick b (x + 1) x ≡ x + pick b 1 0
 one_more true x = refl

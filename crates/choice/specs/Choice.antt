@@ -19,11 +19,11 @@ pub record Distinct (numbers : List ℕ) (n : ℕ) : Type 0 where
   pub room : n ≤ length numbers
   pub once : (i j : ℕ) → i < n → j < n → report_at numbers i ≡ true → number_in numbers i ≡ number_in numbers j → i ≡ j
 
--- the reports among the first `n` numbers lie between `low`, which is none of them, and `high`
+-- the reports among the first `n` numbers lie from `low` on, and all numbers before `high`
 pub record Spanned (numbers : List ℕ) (n low high : ℕ) : Type 0 where
-  pub least : 65535 ≤ low
-  pub above : (i : ℕ) → i < n → report_at numbers i ≡ true → low < number_in numbers i
-  pub below : (i : ℕ) → i < n → number_in numbers i ≤ high
+  pub least : 65536 ≤ low
+  pub above : (i : ℕ) → i < n → report_at numbers i ≡ true → low ≤ number_in numbers i
+  pub below : (i : ℕ) → i < n → number_in numbers i < high
 
 -- whether a report among the first `n` numbers goes: fewer larger ones than the quota go before it
 abbrev pub goes : List ℕ → ℕ → ℕ → ℕ → Bool

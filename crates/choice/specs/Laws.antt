@@ -1,18 +1,18 @@
 -- Laws of the choice: who goes, by a number or by the quota, and the numbers as a loop leaves them.
 use Rattle.std.specs.Prelude.{◌≡◌, true, ◌&&◌, List, ℕ, ◌+◌, ◌<◌, ◌≤◌, ltb, leb, length, set}
 use Rattle.std.proofs.Math.Path.{refl}
-use Rattle.std.proofs.Common.{sym, ◌∙◌, arith}
+use Rattle.std.proofs.Common.{◌∙◌, arith}
 use Rattle.std.proofs.Math.Bool.{and-false}
-use Rattle.std.proofs.lemmas.Bool.{false≢true}
 use borrow.Author.Tests.{ltb-true, ltb-false, lt-ltb, le-ltb, leb-true, leb-false, le-leb, lt-leb}
 use Rattle.numbers.specs.Numbers.{pick}
 use Rattle.numbers.specs.Laws.{cases, and_left}
-use Rattle.numbers.specs.PlaceLaws.{count_less, tab_at, tab_by, tab_same, tab_set}
+use Rattle.numbers.specs.PlaceLaws.{count_le, count_less, tab_at, tab_by, tab_same, tab_set}
 use Rattle.order.specs.Order.{larger_first, rank}
 use Rattle.order.specs.Laws.{by_number}
-use Rattle.order.specs.Keys.{count_from, first_from}
-use Rattle.choice.specs.Sent.{is_report_number, report_at}
-use Rattle.choice.specs.Choice.{number_in, kept, kept_above}
+use Rattle.order.specs.Keys.{count_from, count_past, first_from}
+use Rattle.order.specs.Search.{Bracketed}
+use Rattle.choice.specs.Sent.{report_at}
+use Rattle.choice.specs.Choice.{number_in, Distinct, Spanned, kept, kept_above}
 
 module _ (numbers : List ℕ) (n quota : ℕ) where
   -- where there are no more reports than the quota, all go
@@ -51,17 +51,26 @@ module _ (numbers : List ℕ) (n quota : ℕ) where
       (λ e. rw (e, le-leb (number_in numbers i) bound (omega (arith, leb-false (bound + 1) (number_in numbers i) e))))))
       (λ q. rw q))
 
--- the smaller of a report and the smallest so far, and that where it is no report
-pub smaller : (x least r : ℕ) → 65536 ≤ least → r ≡ pick (is_report_number x && ltb x least) x least
-    → (65536 ≤ r) × (r ≤ least) × (is_report_number x ≡ true → r ≤ x)
-smaller x least r h e =
-    cases (is_report_number x)
-    (λ s.
-    let l = leb-true 65536 x s in
-    cases (ltb x least)
-    (λ q. let b = ltb-true x least q in let same : r ≡ x = e ∙ rw (s, q) in (omega arith, omega arith, λ t. omega arith))
-    (λ q. let b = ltb-false x least q in let same : r ≡ least = e ∙ rw (s, q) in (omega arith, omega arith, λ t. omega arith)))
-    (λ s. let same : r ≡ least = e ∙ rw s in (omega arith, omega arith, λ t. absurd (false≢true (sym s ∙ t))))
+-- More reports than the quota are brackets for a number that just so many are as large as.
+module _ (numbers : List ℕ) (n low high quota : ℕ) (spans : Spanned numbers n low high) where
+  reports : count_from (number_in numbers) n 65536 ≤ count_from (number_in numbers) n low
+  reports = count_le _ _ n (λ i l e. le-leb low (number_in numbers i) (spans.above i l e))
+
+  past : (x : ℕ) → high ≤ x → count_from (number_in numbers) n x ≡ 0
+  past x h = count_past (number_in numbers) n x (λ i l. let b = spans.below i l in omega arith)
+
+  pub bracketed : Distinct numbers n → quota < count_from (number_in numbers) n 65536 → Bracketed (number_in numbers) n quota low high
+  bracketed distinct more =
+      let least = spans.least in
+      record {
+        order =
+            cases (leb low high)
+            (λ e. leb-true low high e)
+            (λ e. let l = leb-false low high e in absurd (omega (arith, reports, past low (omega arith))));
+        enough = omega (arith, reports);
+        few = omega (arith, past high (omega arith));
+        once = λ i j k l h e. distinct.once i j k l (le-leb 65536 (number_in numbers i) (omega arith)) e;
+      }
 
 -- The numbers with those of the first `i` places kept or set to 0, as a loop leaves them.
 module _ (numbers : List ℕ) (bound : ℕ) where

@@ -1,11 +1,13 @@
 // Which of the due drives a hall tick sends, on plain numbers: as many as the quota, or all, those that waited longest first.
 #![tactic(auto)]
 
-ghost use Rattle.std.specs.Prelude.{◌≡◌, ◌+◌, ◌<◌, ◌≤◌, length};
-ghost use Rattle.order.specs.Keys.{count_from};
+ghost use Rattle.std.specs.Prelude.{◌≡◌, ◌<◌, ◌≤◌, length, position, IfSome, unwrap_or};
+ghost use Rattle.choice.specs.Sent.{is_report_number};
 ghost use Rattle.choice.specs.Choice.{key_if, number_in, Distinct, Spanned, kept, kept_above, Next};
 
-use numbers::{max32, pick32};
+use numbers::pick;
+use order::Keys;
+use std::ops::Range;
 
 // From here on a number of a hall tick is a report; until the choice is made, a key.
 const REPORT: u32 = 65536;
@@ -15,125 +17,102 @@ const MOST: u32 = 64;
 
 // What stands for a drive until the choice is made: 0 where it is not due, and otherwise a key. One that waited longer has the larger key
 // and, among equals, that with the lower number.
+// Kept: a key of its own, beside bill's, since each has an edit ties_to_the_higher_number of its own.
+// Kept: a place below 64, as six functions ask: a type for it would be made of a loop's counter and taken apart at once.
 pub fn key(due: bool, wait: u16, place: usize) -> u32
     requires { place < 64 }
     ensures { result ≡ key_if due wait place }
 {
     let number = place as u32;
     let before = MOST - 1 - number;
-    pick32(due, REPORT + (MOST * (wait as u32) + before), 0)
+    pick(due, REPORT + (MOST * u32::from(wait) + before), 0)
 }
 
-// How many of the first `drives` numbers are larger than `bound`.
-fn count_above(numbers: &[u32], drives: usize, bound: u32) -> u32
-    requires { (drives ≤ length numbers.now) × (drives ≤ 64) }
-    ensures { result ≡ count_from (number_in numbers.now) drives (bound + 1) }
-{
-    let mut n: u32 = 0;
-    let mut i: usize = 0;
-    while i < drives {
-        n = pick32(bound < numbers[i], n + 1, n);
-        i += 1;
-    }
-    n
-}
-
-// Two numbers between which all reports lie: each is larger than `low`, and none is larger than `high`.
+// The numbers as keys.
 #[derive(Clone, Copy)]
-pub struct Span {
-    pub low: u32,
-    pub high: u32,
+struct Numbers<'a> {
+    row: &'a [u32],
+    ghost few: { length row.now ≤ 64 },
 }
 
-// Between the smallest and the largest report. Where waits are much the same, these are near each other.
-fn span_of(numbers: &[u32], drives: usize) -> Span
-    requires { drives ≤ length numbers.now }
-    ensures { Spanned numbers.now drives result.low result.high }
-{
-    let mut least: u32 = 4294967295;
-    let mut most: u32 = 0;
-    let mut i: usize = 0;
-    while i < drives {
-        let number = numbers[i];
-        least = pick32((REPORT <= number) & (number < least), number, least);
-        most = max32(most, number);
-        i += 1;
+impl Keys for Numbers<'_> {
+    ghost key = { λ it. number_in it.row.now };
+
+    ghost places = { λ it. length it.row.now };
+
+    fn places(&self) -> usize {
+        self.row.len()
     }
-    Span {
-        low: least - 1,
-        high: most,
+
+    fn reaches(&self, place: usize, least: u64) -> bool {
+        least <= u64::from(self.row[place])
     }
 }
 
-// A number such that just `quota` numbers are larger, where there are more reports than that: halves the span until it is found.
-fn bisected(numbers: &[u32], drives: usize, quota: u32, s: Span) -> u32
-    requires { Distinct numbers.now drives × Spanned numbers.now drives s.low s.high
-        × (quota < count_from (number_in numbers.now) drives 65536) }
-    ensures { (65535 ≤ result) × (count_from (number_in numbers.now) drives (result + 1) ≡ quota) }
+// From the smallest report to behind the largest number. Where waits are much the same, these are near each other.
+// Kept: least and most in one loop, and the largest number where there is no report, which `Spanned` allows.
+fn span_of(numbers: &[u32]) -> Range<u64>
+    ensures { Spanned numbers.now (length numbers.now) result.start result.end }
 {
-    let mut low = s.low;
-    let mut high = s.high;
-    while 1 < high - low {
-        let middle = high - ((high - low) >> 1);
-        let many = count_above(numbers, drives, middle);
-        if many == quota {
-            return middle;
-        }
-        if quota < many {
-            low = middle;
-        } else {
-            high = middle;
-        }
+    let mut least = u32::MAX;
+    let mut most = 0;
+    for number in numbers {
+        least = least.min(pick(REPORT <= *number, *number, u32::MAX));
+        most = most.max(*number);
     }
-    high
+    u64::from(least)..u64::from(most) + 1
 }
 
-// Of the first `drives` numbers sets the reports that are not larger than `bound` to 0.
-fn hold_back(numbers: &mut [u32], drives: usize, bound: u32)
-    requires { drives ≤ length numbers.old }
-    ensures { numbers.new ≡ kept_above numbers.old drives bound }
+// Sets the reports that are not larger than `bound` to 0.
+fn hold_back(numbers: &mut [u32], bound: u64)
+    ensures { numbers.new ≡ kept_above numbers.old (length numbers.old) bound }
 {
-    let mut i: usize = 0;
-    while i < drives {
-        let number = numbers[i];
-        numbers[i] = pick32((REPORT <= number) & (number <= bound), 0, number);
-        i += 1;
+    for number in numbers.iter_mut() {
+        *number = pick(
+            (REPORT <= *number) & (u64::from(*number) <= bound),
+            0,
+            *number,
+        );
     }
 }
 
-// Of the reports among the first `drives` numbers keeps the largest, as many as the quota or all, and sets the others to 0.
-fn keep(numbers: &mut [u32], drives: usize, quota: u32)
-    requires { Distinct numbers.old drives }
-    ensures { numbers.new ≡ kept numbers.old drives quota }
+// Of the reports keeps the largest, as many as the quota or all, and sets the others to 0.
+fn keep(numbers: &mut [u32], quota: u32)
+    requires { Distinct numbers.old (length numbers.old) }
+    ensures { numbers.new ≡ kept numbers.old (length numbers.old) quota }
 {
-    if count_above(numbers, drives, REPORT - 1) <= quota {
+    if order::count_from(&Numbers { row: numbers }, u64::from(REPORT)) <= quota {
         return;
     }
-    let s = span_of(numbers, drives);
-    let bound = bisected(numbers, drives, quota, s);
-    hold_back(numbers, drives, bound);
+    let span = span_of(numbers);
+    let least = order::bisected(&Numbers { row: numbers }, quota, span);
+    hold_back(numbers, least - 1);
 }
 
-// The first place from `from` on, of the first `drives`, whose number is a report; `drives` if there is none.
-pub fn next_sent(numbers: &[u32], from: usize, drives: usize) -> usize
-    requires { (from ≤ drives) × (drives ≤ length numbers.now) }
-    ensures { Next numbers.now from drives result }
+// The first place whose number is a report.
+fn first_sent(numbers: &[u32]) -> Option<usize>
+    ensures { result ≡ position is_report_number numbers.now }
 {
-    let mut i = from;
-    while i < drives {
-        if REPORT <= numbers[i] {
-            return i;
-        }
-        i += 1;
-    }
-    drives
+    numbers.iter().position(|number| REPORT <= *number)
 }
 
-// Keeps the keys of those that go, and gives the place of the first of them, `drives` if there is none.
-pub fn choose(numbers: &mut [u32], drives: usize, quota: u32) -> usize
-    requires { Distinct numbers.old drives }
-    ensures { (numbers.new ≡ kept numbers.old drives quota) × Next numbers.new 0 drives result }
+// The first place from `from` on whose number is a report.
+pub fn next_sent(numbers: &[u32], from: usize) -> Option<usize>
+    requires { from ≤ length numbers.now }
+    ensures next { Next numbers.now from (length numbers.now) (unwrap_or result (length numbers.now)) }
+    ensures within { IfSome result (λ k. k < length numbers.now) }
 {
-    keep(numbers, drives, quota);
-    next_sent(numbers, 0, drives)
+    let k = first_sent(&numbers[from..])?;
+    Some(from + k)
+}
+
+// Keeps the keys of those that go, and gives the place of the first of them.
+pub fn choose(numbers: &mut [u32], quota: u32) -> Option<usize>
+    requires { Distinct numbers.old (length numbers.old) }
+    ensures kept { numbers.new ≡ kept numbers.old (length numbers.old) quota }
+    ensures next { Next numbers.new 0 (length numbers.new) (unwrap_or result (length numbers.new)) }
+    ensures within { IfSome result (λ k. k < length numbers.new) }
+{
+    keep(numbers, quota);
+    next_sent(numbers, 0)
 }

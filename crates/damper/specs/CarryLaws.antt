@@ -1,13 +1,14 @@
 -- Laws of a drive that is carried over a list of event records, and of a loop that carries it over a slice of them.
 use Rattle.std.specs.Prelude.{◌≡◌, refl, ℕ, ◌+◌, ◌-◌, ◌<◌, ◌≤◌, min, length, take, drop, set}
 use Rattle.std.proofs.Math.Path.{sym}
-use Rattle.std.proofs.Common.{◌∙◌, add-one, drop-cons}
+use Rattle.std.proofs.Common.{◌∙◌, inl, inr, add-one, drop-cons, drop-drop, drop_at}
 use mathlib.Core.List.{List, [], ◌∷◌, ◌++◌, append-nil, map, map-append}
 use native.Mathlib.Omega.{arith}
 use Rattle.std.proofs.Math.Nat.{sub-zero, add-sub_cancel_left}
-use Rattle.std.proofs.Math.ListN.{length-append}
+use Rattle.std.proofs.Math.ListN.{length-append, length-drop}
+use Rattle.std.proofs.lemmas.Bool.{cases_lt}
 use Rattle.std.proofs.lemmas.List.{length-map, set_at}
-use Rattle.std.proofs.Math.Seq.{append_snoc}
+use Rattle.std.proofs.Math.Seq.{append_snoc, take-append_seam}
 use Rattle.answer.specs.declared.Answer.{Answer}
 use Rattle.event.specs.Records.{records_of}
 use Rattle.event.specs.RecordLaws.{left_none, left_more}
@@ -58,6 +59,15 @@ module _ {step : Step} {d₀ : Drive} {room : ℕ} {s : List ℕ} {os : List Out
     left = c.left ∙ rw (left_more room i s at n h k size, append_snoc, gives, add-sub_cancel_left at n);
   }
 
+  -- the same, where the bytes are cut into chunks of six: `x` is the next, and `rest` what is left with it, `rest'` without it
+  pub chunk : {x rest rest' : List ℕ} {o : Outcome} → i < room → rest ≡ drop at s → rest ≡ x ++ rest' → length x ≡ min 6 (length rest) → 0 < length rest
+      → o ≡ step d x → Carried step d₀ room s (os ++ (o ∷ [])) o.drive (i + 1) (at + length x) × (rest' ≡ drop (at + length x) s)
+  chunk {x} {rest} {rest'} {o} h here parts size some gives =
+      let parted : drop at s ≡ x ++ rest' = sym here ∙ parts in
+      let left : length rest ≡ length s - at = rw here (length-drop at s) in
+      let record_is : take (at + length x - at) (drop at s) ≡ x = rw (add-sub_cancel_left at (length x), parted) (take-append_seam x rest') in
+      (turn h (omega arith) (omega arith) (gives ∙ rw record_is), rw (← drop-drop (length x) at s, parted) (sym (drop_at x rest' (length x) refl)))
+
   -- no room is left, or no bytes are: the outcomes are those that are asked
   pub full : room ≤ i → outcomes step d₀ (take room (records_of s)) ≡ os
   unfolding outcomes
@@ -66,6 +76,15 @@ module _ {step : Step} {d₀ : Drive} {room : ℕ} {s : List ℕ} {os : List Out
   pub ended : length s ≤ at → outcomes step d₀ (take room (records_of s)) ≡ os
   unfolding outcomes
   ended h = (rw (left_none (room - i) s at h) at c.left) ∙ append-nil os
+
+  -- and so, over chunks, are they where none is taken that is left: `left` of them may still be taken
+  pub taken : {left : ℕ} {rest : List ℕ} → left + i ≡ room → rest ≡ drop at s → (0 < left → length rest ≡ 0)
+      → outcomes step d₀ (take room (records_of s)) ≡ os
+  taken {left} {rest} all here none =
+      elim (cases_lt 0 left) [
+        | inl some ↦ ended (omega (arith, none some, rw here at (none some), length-drop at s))
+        | inr full_now ↦ full (omega arith)
+      ]
 
 -- the number `w` of the next outcome `o` is stored at the first place of a row that has none
 pub answers_more : (number : Answer → ℕ) (os : List Outcome) (row₀ : List ℕ) (o : Outcome) {row : List ℕ} {i w : ℕ} → i < length row₀

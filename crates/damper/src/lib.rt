@@ -2,7 +2,6 @@
 #![tactic(auto)]
 
 ghost use Rattle.std.specs.Prelude.{◌≡◌, ◌<◌, ◌≤◌, length};
-ghost use Rattle.numbers.specs.Numbers.{pick};
 ghost use Rattle.table.specs.Table.{rows};
 ghost use Rattle.motion.specs.Motion.{run_ticks};
 ghost use Rattle.damper.specs.Record.{fresh_drive, with_counts, with_position, with_move, with_run, with_report, with_heard, with_param, with_setpoint, with_tool, with_hand, with_wait, cleared};
@@ -11,11 +10,16 @@ ghost use Rattle.damper.specs.WellFormed.{run_fits, last_fits, well_formed};
 use answer::Answer;
 use rules::Commands;
 
+mod formed;
 mod rank;
 mod step;
 mod tick;
 
+pub use formed::Formed;
+pub use rank::Rank;
+
 // A run: 0 none, 1 calibration, 2 sync close, 3 sync open; the ticks left.
+// Kept: no Option here and in Last, since the C interface has these structs, and any bytes are one.
 #[repr(C)]
 #[derive(Clone, Copy)]
 pub struct Run {
@@ -32,6 +36,7 @@ pub struct Last {
     pub status: u8,
 }
 
+// Kept: constants written out, since the value of a constant can not be a call of default().
 const NO_RUN: Run = Run {
     kind: rules::NO_RUN,
     left: 0,
@@ -66,6 +71,7 @@ pub struct Drive {
     pub travel: u32,
 }
 
+// Kept: numbers, as the definition `advance` and the answers have them.
 // A drive after steps 1 to 3 of a tick, the ruling rank during the move, and the motor: 0 still, 1 rising, 2 falling, or 1 and 2
 // exchanged.
 #[derive(Clone, Copy)]
@@ -84,6 +90,7 @@ pub struct Outcome {
 
 impl Run {
     // Left is at most K just where left × rate is below 255 + rate, which needs no division.
+    #[tactic(auto, unfolding(crate::specs::WellFormed::run_fits))]
     fn fits(self, rate: u16, forbidden: bool) -> bool
         requires { 1 ≤ rate }
         ensures { result ≡ run_fits self (run_ticks rate) forbidden }
@@ -98,6 +105,7 @@ impl Run {
 }
 
 impl Last {
+    #[tactic(auto, unfolding(crate::specs::WellFormed::last_fits))]
     fn fits(self) -> bool
         ensures { result ≡ last_fits self }
     {
@@ -110,6 +118,7 @@ impl Last {
 
 impl Drive {
     // The ranks.
+    // Kept: numbers, the form that document 01 names: "the seven ranks belong to the drive as constants".
     pub const FAULT: u8 = 6;
 
     pub const FORCING: u8 = 5;
@@ -140,6 +149,7 @@ impl Drive {
         }
     }
 
+    #[tactic(auto, unfolding(crate::specs::WellFormed::well_formed))]
     pub fn well_formed(self) -> bool
         ensures { result ≡ well_formed self }
     {
@@ -233,6 +243,7 @@ impl Drive {
         self
     }
 
+    // Kept: a flag and a position here and in with_hand, as the definitions of these names and the record have them.
     pub fn with_tool(mut self, on: u8, position: u8) -> Drive
         ensures { result ≡ with_tool self on position }
     {
@@ -260,16 +271,11 @@ impl Drive {
         ensures { result ≡ cleared self }
     {
         let params = self.params;
-        let mut d = Drive::fresh();
-        d.position = self.position;
-        d.params = params;
-        d.travel = self.travel;
-        d
+        Drive {
+            params,
+            position: self.position,
+            travel: self.travel,
+            ..Drive::fresh()
+        }
     }
-}
-
-fn pick_run(c: bool, a: Run, b: Run) -> Run
-    ensures { result ≡ pick c a b }
-{
-    if c { a } else { b }
 }

@@ -6,8 +6,16 @@ ghost use Rattle.rules.specs.Rank.{active_byte};
 ghost use Rattle.damper.specs.Tick.{target_at, bus_on, ruling};
 
 use crate::Drive;
-use numbers::{bit, pick8};
+use numbers::{bit, pick};
 use rules::Commands;
+use table::Params;
+
+// A rank's number, 0 to 6.
+#[derive(Clone, Copy)]
+pub struct Rank {
+    pub number: u8,
+    pub ghost bound: { number < 7 },
+}
 
 // The active ranks as one byte, rank r at bit r. A flag of 0 or 1 is its own bit.
 fn active(c: Commands, run: u8, bus: bool) -> u8
@@ -33,25 +41,26 @@ impl Drive {
     }
 
     // The ruling rank of the record as it is.
-    pub fn ruling(self) -> u8
+    pub fn ruling(self) -> Rank
         requires { Flags self.commands }
-        ensures value { result ≡ ruling self }
-        ensures bound { result < 7 }
+        ensures { result.number ≡ ruling self }
     {
-        rules::ruling_rank(active(self.commands, self.run.kind, self.bus_on()))
+        let number = rules::ruling_rank(active(self.commands, self.run.kind, self.bus_on()));
+        Rank { number }
     }
 
     // The target at a rank.
-    pub fn target(self, rank: u8) -> u8
-        requires ranges { Ranges self.params }
-        requires rank_bound { rank < 7 }
-        ensures { result ≡ target_at self rank }
+    #[tactic(auto, unfolding(crate::specs::Tick::target_at, rules::specs::Rank::targets))]
+    pub fn target(self, rank: Rank) -> u8
+        requires { Ranges self.params }
+        ensures { result ≡ target_at self rank.number }
     {
-        let params = self.params;
-        match rank {
+        let values = self.params;
+        let params = Params { values };
+        match rank.number {
             Drive::FAULT => self.position,
-            Drive::FORCING => pick8(self.commands.forcing == 2, 0, 255),
-            Drive::RUN => pick8(self.run.kind == rules::SYNC_OPEN, 255, 0),
+            Drive::FORCING => pick(self.commands.forcing == 2, 0, 255),
+            Drive::RUN => pick(self.run.kind == rules::SYNC_OPEN, 255, 0),
             Drive::HAND => rules::limited(params, self.commands.handpos),
             Drive::TOOL => rules::limited(params, self.commands.toolpos),
             Drive::BUS => rules::limited(params, self.commands.setpoint),

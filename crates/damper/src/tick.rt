@@ -1,13 +1,12 @@
 // A tick: advance (steps 1 to 3), due and, as `with_report`, the report of step 4.
 ghost use Rattle.std.specs.Prelude.{◌≡◌, ◌<◌};
 ghost use Rattle.table.specs.Laws.{Ranges};
-ghost use Rattle.rules.specs.CommandsLaws.{Flags};
 ghost use Rattle.damper.specs.Tick.{aged, moved, ran_down, advance, status_of, due_with};
 ghost use Rattle.damper.specs.Step.{ticked};
 
-use crate::{Advanced, Drive, NO_RUN, Outcome, Run};
+use crate::{Advanced, Drive, Formed, NO_RUN, Outcome, Rank, Run};
 use answer::Answer;
-use numbers::{next16, pick8, pick16};
+use numbers::{next, pick};
 
 impl Run {
     // Step 3.
@@ -29,44 +28,24 @@ impl Run {
 
 impl Drive {
     // Step 1.
+    #[tactic(auto, unfolding(crate::specs::Tick::aged))]
     pub fn aged(self) -> Drive
         ensures { result ≡ aged self }
     {
         self.with_counts(
-            pick16(self.commands.stored == 1, next16(self.age), self.age),
-            next16(self.since),
+            pick(self.commands.stored == 1, next(self.age), self.age),
+            next(self.since),
         )
     }
 
     // Step 2.
-    fn moved(self, rank: u8) -> Drive
-        requires ranges { Ranges self.params }
-        requires rank_bound { rank < 7 }
-        ensures { result ≡ moved self rank }
+    #[tactic(auto, unfolding(crate::specs::Tick::moved))]
+    fn moved(self, rank: Rank) -> Drive
+        requires { Ranges self.params }
+        ensures { result ≡ moved self rank.number }
     {
         let params = self.params;
         self.with_move(motion::toward(self.position, self.target(rank), params[table::RATE] as u8))
-    }
-
-    // Steps 1 to 3.
-    pub fn advance(self) -> Advanced
-        requires ranges { Ranges self.params }
-        requires flags { Flags self.commands }
-        ensures { result ≡ advance self }
-    {
-        let a = self.aged();
-        let rank = a.ruling();
-        let m = a.moved(rank).with_run(self.run.ran_down());
-        let params = self.params;
-        Advanced {
-            drive: m,
-            rank: rank,
-            motor: motion::motor(
-                params[table::OPEN_CLOSE_DIRECTION],
-                self.position,
-                m.position,
-            ),
-        }
     }
 
     // The status of the record as it is.
@@ -77,6 +56,7 @@ impl Drive {
     }
 
     // Whether a report is due after steps 1 to 3, which left this status.
+    #[tactic(auto, unfolding(crate::specs::Tick::due_with))]
     pub fn due(self, status: u8) -> bool
         ensures { result ≡ due_with self status }
     {
@@ -92,33 +72,56 @@ impl Drive {
                 | (status != self.last.status)
                 | (params[table::REP_PER] <= self.since))
     }
+}
+
+impl Formed {
+    // Steps 1 to 3.
+    #[tactic(auto, unfolding(crate::specs::Tick::advance, crate::specs::Tick::aged))]
+    pub fn advance(self) -> Advanced
+        ensures { result ≡ advance self.drive }
+    {
+        let d = self.drive;
+        let a = d.aged();
+        let rank = a.ruling();
+        let drive = a.moved(rank).with_run(d.run.ran_down());
+        let params = d.params;
+        let motor = motion::motor(
+            params[table::OPEN_CLOSE_DIRECTION],
+            d.position,
+            drive.position,
+        );
+        Advanced {
+            drive,
+            rank: rank.number,
+            motor,
+        }
+    }
 
     // Kind 1.
+    #[tactic(auto, unfolding(crate::specs::Step::ticked, crate::specs::Step::tick_with))]
     pub(crate) fn tick(self) -> Outcome
-        requires ranges { Ranges self.params }
-        requires flags { Flags self.commands }
-        ensures { result ≡ ticked self }
+        ensures { result ≡ ticked self.drive }
     {
-        let a = self.advance();
-        let d = a.drive;
-        let status = d.status();
-        if d.due(status) {
+        let Advanced { drive, rank, motor } = self.advance();
+        let status = drive.status();
+        let position = drive.position;
+        if drive.due(status) {
             Outcome {
-                drive: d.with_report(status),
+                drive: drive.with_report(status),
                 answer: Answer::Report {
-                    position: d.position,
-                    rank: a.rank,
-                    motor: a.motor,
-                    status: status,
+                    position,
+                    rank,
+                    motor,
+                    status,
                 },
             }
         } else {
             Outcome {
-                drive: d,
+                drive,
                 answer: Answer::Tick {
-                    position: d.position,
-                    rank: a.rank,
-                    motor: a.motor,
+                    position,
+                    rank,
+                    motor,
                 },
             }
         }

@@ -95,7 +95,7 @@ fn main(rt: HostRuntime) -> Result<(), Failure> {
     for _ in 0..u64::MAX {
         let kept = s.kept;
         let got = get(&mut stdin, &mut input[kept..]).map_err(Failure::Input)?;
-        let t = printer::turn(s, &mut input, kept + got, got == 0, &mut out);
+        let t = printer::turn(s, &mut input[..kept + got], got == 0, &mut out);
         let used = t.used;
         put(&mut stdout, &out[..used]).map_err(Failure::Output)?;
         if got == 0 {

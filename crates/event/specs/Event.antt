@@ -1,10 +1,10 @@
 -- Document 01, 'Eleven kinds of event' and 'When an event is turned down' (2 to 8): the event record's six bytes.
-use Rattle.std.specs.Prelude.{Bool, true, false, not, ◌&&◌, ◌||◌, List, [], ◌∷◌, ◌++◌, ℕ, ◌+◌, ◌*◌, leb, ltb, eqb, get_or, length, drop}
+use Rattle.std.specs.Prelude.{Bool, true, false, not, ◌&&◌, ◌||◌, List, [], ◌∷◌, ◌++◌, ℕ, ◌+◌, ◌*◌, leb, ltb, eqb, get_or, length, drop, Result, Ok, Err}
 use Rattle.numbers.specs.Numbers.{pick}
 use Rattle.table.specs.Table.{known}
 use Rattle.event.specs.declared.Event.{Event}
-use Rattle.event.specs.declared.Decoded.{Decoded}
-use Rattle.event.specs.declared.Decoded.TheVariants.{Accepted, Refused}
+use Rattle.answer.specs.declared.refusal.Refusal.{Refusal}
+use Rattle.answer.specs.Refusal.{number}
 use Rattle.event.specs.Kinds as Kind
 
 -- kind, then the data bytes a, b, c
@@ -119,6 +119,15 @@ data_refusal e =
 -- the first of 2 to 8 that fits the bytes handed in, 0 if none does; 2: "The bytes handed in are not exactly six"
 unfoldable pub record_refusal : List ℕ → ℕ
 record_refusal s = pick (not (eqb (length s) 6)) 2 (pick (bad_mark s) 3 (data_refusal (event_in s)))
+
+-- what the reader finds: an event, or the number of the refusal
+pub data Decoded : Type 0 where
+  Accepted : Event → Decoded
+  Refused : ℕ → Decoded
+
+abbrev pub decoded : Result Event Refusal → Decoded
+decoded (Ok e) = Accepted e
+decoded (Err r) = Refused (number r)
 
 -- "The reader takes bytes, checks 2 to 8 and gives kind, a, b, c."
 unfoldable pub read_of : List ℕ → Decoded

@@ -1,5 +1,9 @@
 -- Document 01, 'Eleven kinds of event': the numbers of the kinds, and of the commands of kind 3.
-use Rattle.std.specs.Prelude.{ℕ}
+use Rattle.std.specs.Prelude.{◌≡◌, ◌<◌, ◌⊎◌, ℕ, Option, Some, None, Result, Ok, Err}
+use Rattle.answer.specs.declared.refusal.Refusal.{Refusal}
+use Rattle.answer.specs.declared.refusal.Refusal.TheVariants as R
+use Rattle.event.specs.declared.kind.Kind.{Kind}
+use Rattle.event.specs.declared.kind.Kind.TheVariants.{Tick, Setpoint, LteSetpoint, Forcing, Hand, Calibration, Fault, Write, Restart, ReadPosition, ReadParameter}
 
 abbrev pub tick : ℕ
 tick = 1
@@ -33,6 +37,30 @@ read_position = 10
 
 abbrev pub read_parameter : ℕ
 read_parameter = 11
+
+-- the number of a kind
+abbrev pub number : Kind → ℕ
+number Tick = tick
+number Setpoint = setpoint
+number LteSetpoint = lte_setpoint
+number Forcing = forcing
+number Hand = hand
+number Calibration = calibration
+number Fault = fault
+number Write = write
+number Restart = restart
+number ReadPosition = read_position
+number ReadParameter = read_parameter
+
+-- what is found of the number `n`: the kind with it, or refusal 4 where none has it
+abbrev pub IsKind : ℕ → Result Kind Refusal → Type 0
+IsKind n (Ok k) = number k ≡ n
+IsKind n (Err r) = (r ≡ R.Kind) × ((n < tick) ⊎ (read_parameter < n))
+
+-- the number of a kind where there is one, 0 where there is none
+abbrev pub kind_found : Option Kind → ℕ
+kind_found None = 0
+kind_found (Some k) = number k
 
 -- "c = command: 0 normal write, 1 override, 2 release"
 abbrev pub normal : ℕ

@@ -1,12 +1,17 @@
 -- Laws of the event record: the eleven kinds by cases, and that reading a written event gives that event.
-use Rattle.std.specs.Prelude.{◌≡◌, refl, true, false, not, List, [], ◌∷◌, ◌++◌, ℕ, zero, suc, ◌≤◌, ltb, eqb, length, take, drop, set}
-use Rattle.std.proofs.Common.{sym, subst, ◌∙◌, arith, lt-ltb, ltb-false, le-leb, eqb-true, take_at}
+use Rattle.std.specs.Prelude.{◌≡◌, refl, true, false, not, List, ℕ, zero, suc, ◌<◌, ◌≤◌, ◌⊎◌, ◌&&◌, leb, ltb, eqb, Bool, length, take, drop, Result, Ok, Err}
+use Rattle.std.specs.Result.{result_ok}
+use Rattle.std.proofs.Common.{inl, inr, sym, subst, ◌∙◌, arith, lt-ltb, ltb-false, le-leb, leb-true, eqb-true, take_at}
 use Rattle.std.proofs.Math.Bool.{or-true}
-use Rattle.std.proofs.lemmas.Bool.{false≢true}
-use Rattle.numbers.specs.Laws.{passed, not_false}
+use Rattle.std.proofs.lemmas.Bool.{false≢true, eqb-false}
+use Rattle.numbers.specs.Laws.{passed, not_false, and_left, and_right}
 use Rattle.table.specs.Table.{known}
 use Rattle.event.specs.declared.Event.{Event}
-use Rattle.event.specs.declared.Decoded.TheVariants.{Accepted}
+use Rattle.event.specs.Event.{Accepted, Refused}
+use Rattle.numbers.specs.Numbers.{pick}
+use Rattle.event.specs.declared.kind.Kind.{Kind}
+use Rattle.answer.specs.declared.refusal.Refusal.{Refusal}
+use Rattle.event.specs.Kinds.{IsKind, kind_found}
 use Rattle.event.specs.Event as E
 
 -- what holds of each of the eleven kinds holds of every kind that is not refused by 4
@@ -72,13 +77,26 @@ read_written s e h =
     let t = passed (ltb (length s) 6) 2 (E.data_refusal e) h (omega arith) in
     rw h (rw (take_at (E.bytes_of e) (drop 6 s)) (read_bytes e t.1))
 
--- six stores from the first place on are the six bytes and what followed them
-pub stored : (s : List ℕ) (e : Event) → 6 ≤ length s
-    → set (set (set (set (set (set s 0 0x5a) 1 0xc3) 2 e.kind) 3 e.a) 4 e.b) 5 e.c ≡ E.bytes_of e ++ drop 6 s
-stored [] e h = absurd (omega arith)
-stored (x0 ∷ []) e h = absurd (omega arith)
-stored (x0 ∷ (x1 ∷ [])) e h = absurd (omega arith)
-stored (x0 ∷ (x1 ∷ (x2 ∷ []))) e h = absurd (omega arith)
-stored (x0 ∷ (x1 ∷ (x2 ∷ (x3 ∷ [])))) e h = absurd (omega arith)
-stored (x0 ∷ (x1 ∷ (x2 ∷ (x3 ∷ (x4 ∷ []))))) e h = absurd (omega arith)
-stored (x0 ∷ (x1 ∷ (x2 ∷ (x3 ∷ (x4 ∷ (x5 ∷ s)))))) e h = refl
+-- what the reader's answer says of the bytes
+pub read_ok : (s : List ℕ) (e : Event) → Accepted e ≡ E.read_of s → (E.record_refusal s ≡ 0) × (e ≡ E.event_in s)
+unfolding E.read_of
+read_ok s e h = go (eqb (E.record_refusal s) 0) refl h
+  where
+    go : (b : Bool) → eqb (E.record_refusal s) 0 ≡ b → Accepted e ≡ pick b (Accepted (E.event_in s)) (Refused (E.record_refusal s))
+        → (E.record_refusal s ≡ 0) × (e ≡ E.event_in s)
+    go true q h = (eqb-true _ _ q, cc)
+    go false q h = cc
+
+-- an event that passed has one of the eleven kinds, so that its kind is found
+pub kind_passed : (e : Event) → E.data_refusal e ≡ 0 → (e.kind < 1) ⊎ (11 < e.kind) → ⊥
+kind_passed e h =
+    by_kind (λ k. (k < 1) ⊎ (11 < k) → ⊥) (no 1 refl) (no 2 refl) (no 3 refl) (no 4 refl) (no 5 refl) (no 6 refl) (no 7 refl) (no 8 refl)
+    (no 9 refl) (no 10 refl) (no 11 refl) e.kind (admitted e h).kind
+  where
+    no : (k : ℕ) → leb 1 k && leb k 11 ≡ true → (k < 1) ⊎ (11 < k) → ⊥
+    no k h (inl l) = omega (arith, leb-true 1 k (and_left (leb 1 k) _ h))
+    no k h (inr l) = omega (arith, leb-true k 11 (and_right (leb 1 k) _ h))
+
+pub kind_is : (e : Event) (r : Result Kind Refusal) → E.data_refusal e ≡ 0 → IsKind e.kind r → kind_found (result_ok r) ≡ e.kind
+kind_is e (Ok k) h i = i
+kind_is e (Err f) h i = absurd (kind_passed e h i.1)

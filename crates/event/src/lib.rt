@@ -2,43 +2,29 @@
 #![tactic(auto)]
 
 ghost use Rattle.std.specs.Prelude.{◌≡◌, length};
-ghost use Rattle.event.specs.Event.{event, event_in, data_refusal, record_refusal, read_of, kind_in, write_refusal, written_to, value_of};
+ghost use Rattle.answer.specs.Refusal.{refused_by};
+ghost use Rattle.event.specs.Event.{event, event_in, data_refusal, read_of, decoded, kind_in, write_refusal, written_to, value_of};
+ghost use Rattle.event.specs.Kinds.{number, kind_found};
 
-use numbers::pick8;
+use answer::{Refusal, refuse};
+
+mod kind;
+
+pub use kind::Kind;
 
 // How many bytes a record has.
 pub const LENGTH: usize = 6;
 
-// Document 01's eleven kinds.
-pub const TICK: u8 = 1;
-
-pub const SETPOINT: u8 = 2;
-
-pub const LTE_SETPOINT: u8 = 3;
-
-pub const FORCING: u8 = 4;
-
-pub const HAND: u8 = 5;
-
-pub const CALIBRATION: u8 = 6;
-
-pub const FAULT: u8 = 7;
-
-pub const WRITE: u8 = 8;
-
-pub const RESTART: u8 = 9;
-
-pub const READ_POSITION: u8 = 10;
-
-pub const READ_PARAMETER: u8 = 11;
-
 // The commands of kind 3, in byte c.
+// Kept: numbers, since the definitions `bad_command` and `commanded` compare byte c, and two edits are about these comparisons.
 pub const NORMAL: u8 = 0;
 
 pub const OVERRIDE: u8 = 1;
 
 pub const RELEASE: u8 = 2;
 
+// Kind and data bytes of a record, of any values.
+// Kept: the kind is a byte, since the definition `data_refusal`, refusal 4, and so the writer are about any byte.
 #[derive(Clone, Copy)]
 pub struct Event {
     pub kind: u8,
@@ -47,54 +33,68 @@ pub struct Event {
     pub c: u8,
 }
 
-// What the reader finds: an event, or the number of the refusal.
-#[derive(Clone, Copy)]
-pub enum Decoded {
-    Accepted(Event),
-    Refused(u8),
+impl Event {
+    // The kind of an event that none of 4 to 8 fits.
+    pub fn kind_admitted(self) -> Kind
+        requires { data_refusal self ≡ 0 }
+        ensures { number result ≡ self.kind }
+    {
+        let Ok(kind) = Kind::try_from(self.kind) else {
+            unreachable!()
+        };
+        kind
+    }
 }
 
-// The first of the refusals 4 to 8 that fits, or 0.
-fn data_refusal(e: Event) -> u8
-    ensures { result ≡ data_refusal e }
+// The first of the refusals 4 to 8 that fits.
+#[tactic(auto, unfolding(crate::specs::Event::data_refusal, crate::specs::Event::form_of))]
+fn data_refusal(e: Event) -> Result<(), Refusal>
+    ensures { refused_by result ≡ data_refusal e }
 {
-    let kind = e.kind;
     let a = e.a;
     let b = e.b;
     let c = e.c;
     let bc = (b != 0) | (c != 0);
-    let abc = (a != 0) | (b != 0) | (c != 0);
-    match kind {
-        TICK => pick8(abc, 5, 0),
-        SETPOINT => pick8(bc, 5, 0),
-        LTE_SETPOINT => pick8(
-            !((51 <= a) & (a <= 54)),
-            6,
-            pick8(RELEASE < c, 7, pick8((c <= OVERRIDE) & (100 < b), 8, 0)),
-        ),
-        FORCING => pick8(bc, 5, pick8(!(a <= 3), 6, 0)),
-        HAND => pick8(c != 0, 5, pick8(!(a <= 1), 6, 0)),
-        CALIBRATION => pick8(bc, 5, pick8(!(a <= 1), 6, 0)),
-        FAULT => pick8(bc, 5, pick8(!(a <= 1), 6, 0)),
-        WRITE => pick8(!table::known(a), 6, 0),
-        RESTART => pick8(abc, 5, 0),
-        READ_POSITION => pick8(abc, 5, 0),
-        READ_PARAMETER => pick8(bc, 5, pick8(!table::known(a), 6, 0)),
-        _ => 4,
+    let abc = (a != 0) | bc;
+    match Kind::try_from(e.kind)? {
+        Kind::Tick | Kind::Restart | Kind::ReadPosition => refuse(abc, Refusal::Unused),
+        Kind::Setpoint => refuse(bc, Refusal::Unused),
+        Kind::LteSetpoint => {
+            refuse(!((51 <= a) & (a <= 54)), Refusal::Value)?;
+            refuse(RELEASE < c, Refusal::Command)?;
+            refuse((c <= OVERRIDE) & (100 < b), Refusal::Percent)
+        }
+        Kind::Forcing => {
+            refuse(bc, Refusal::Unused)?;
+            refuse(3 < a, Refusal::Value)
+        }
+        Kind::Hand => {
+            refuse(c != 0, Refusal::Unused)?;
+            refuse(1 < a, Refusal::Value)
+        }
+        Kind::Calibration | Kind::Fault => {
+            refuse(bc, Refusal::Unused)?;
+            refuse(1 < a, Refusal::Value)
+        }
+        Kind::Write => refuse(!table::known(a), Refusal::Value),
+        Kind::ReadParameter => {
+            refuse(bc, Refusal::Unused)?;
+            refuse(!table::known(a), Refusal::Value)
+        }
     }
 }
 
-// The first of the refusals 2 to 8 that fits the bytes handed in, or 0.
-pub fn refusal(s: &[u8]) -> u8
-    ensures { result ≡ record_refusal s.now }
+// The event in the bytes handed in, or the first of the refusals 2 to 8 that fits.
+// Kept: byte by byte, here and in write, about which the edits reads_seven, buffer_of_seven and mark_exchanged are.
+#[tactic(auto, unfolding(crate::specs::Event::read_of, crate::specs::Event::record_refusal))]
+pub fn read(s: &[u8]) -> Result<Event, Refusal>
+    ensures { decoded result ≡ read_of s.now }
 {
-    if s.len() != LENGTH {
-        return 2;
-    }
-    if (s[0] != 0x5A) | (s[1] != 0xC3) {
-        return 3;
-    }
-    data_refusal(event_in(s))
+    refuse(s.len() != LENGTH, Refusal::Length)?;
+    refuse((s[0] != 0x5A) | (s[1] != 0xC3), Refusal::Mark)?;
+    let e = event_in(s);
+    data_refusal(e)?;
+    Ok(e)
 }
 
 // Kind and data bytes of six bytes.
@@ -110,59 +110,37 @@ pub fn event_in(s: &[u8]) -> Event
     }
 }
 
-// The event in the bytes handed in, or the first of the refusals 2 to 8 that fits.
-pub fn read(s: &[u8]) -> Decoded
-    ensures { result ≡ read_of s.now }
+// The kind of a record that the reader accepts.
+#[tactic(auto, unfolding(crate::specs::Event::read_of))]
+pub fn kind_in(s: &[u8]) -> Option<Kind>
+    ensures { kind_found result ≡ kind_in s.now }
 {
-    let n = refusal(s);
-    if n == 0 {
-        Decoded::Accepted(event_in(s))
-    } else {
-        Decoded::Refused(n)
+    match read(s) {
+        Ok(e) => Kind::try_from(e.kind).ok(),
+        Err(_) => None,
     }
 }
 
-// The kind of a record that the reader accepts, 0 of any other bytes.
-pub fn kind_in(s: &[u8]) -> u8
-    ensures { result ≡ kind_in s.now }
+// Writes the six bytes of an event to the front of buf, or answers the first of the refusals 2 and 4 to 8 that fits and writes nothing.
+#[tactic(auto, unfolding(crate::specs::Event::write_refusal, crate::specs::Event::written_to))]
+pub fn write(buf: &mut [u8], e: Event) -> Result<(), Refusal>
+    ensures answer { refused_by result ≡ write_refusal buf.old e }
+    ensures bytes { buf.new ≡ written_to buf.old e }
 {
-    if refusal(s) != 0 {
-        return 0;
-    }
-    let e = event_in(s);
-    e.kind
-}
-
-// Writes the six bytes of an event to the front of buf and answers 0, or answers the first of the refusals 2 and 4 to 8
-// that fits and writes nothing.
-pub fn write(buf: &mut [u8], kind: u8, a: u8, b: u8, c: u8) -> u8
-    ensures answer { result ≡ write_refusal buf.old (event kind a b c) }
-    ensures bytes { buf.new ≡ written_to buf.old (event kind a b c) }
-{
-    if buf.len() < LENGTH {
-        return 2;
-    }
-    let n = data_refusal(Event {
-        kind: kind,
-        a: a,
-        b: b,
-        c: c,
-    });
-    if n != 0 {
-        return n;
-    }
+    refuse(buf.len() < LENGTH, Refusal::Length)?;
+    data_refusal(e)?;
     buf[0] = 0x5A;
     buf[1] = 0xC3;
-    buf[2] = kind;
-    buf[3] = a;
-    buf[4] = b;
-    buf[5] = c;
-    0
+    buf[2] = e.kind;
+    buf[3] = e.a;
+    buf[4] = e.b;
+    buf[5] = e.c;
+    Ok(())
 }
 
 // The value that a parameter write carries.
 pub fn value_of(e: Event) -> u16
     ensures { result ≡ value_of e }
 {
-    256 * (e.b as u16) + (e.c as u16)
+    u16::from_be_bytes([e.b, e.c])
 }

@@ -1,15 +1,16 @@
 -- What a flow box makes of a reading (document 02, W-209). A single float is a value of `lib.Ieee`: each product and each difference is
 -- rounded once, to `binary32`, and every comparison with a NaN fails.
-use Rattle.std.specs.Prelude.{◌≡◌, Bool, true, false, not, ◌&&◌, ◌||◌, ℕ, zero, suc, ◌<◌, ◌≤◌, leb, pos, Float}
+use Rattle.std.specs.Prelude.{◌≡◌, Bool, true, false, not, ◌&&◌, ◌||◌, ℕ, zero, suc, ◌<◌, ◌≤◌, leb, pos, Float, Option, Some, None, Result, Ok, Err}
 use Rattle.std.specs.Float.{binary32}
 use Rattle.std.specs.Float.Ieee.{of_int, mul, sub, le, lt}
 use Rattle.numbers.specs.Numbers.{pick, on, is_flag, next}
 use Rattle.flow.specs.declared.Reading.{Reading}
 use Rattle.flow.specs.declared.Reading.TheVariants.{Flow, Share, Broken}
-use Rattle.flow.specs.declared.Measured.{Measured}
-use Rattle.flow.specs.declared.Measured.TheVariants.{At, Nothing, Refused}
+use Rattle.flow.specs.declared.FlowRefusal.{FlowRefusal}
+use Rattle.flow.specs.declared.FlowRefusal.TheVariants as By
 use Rattle.flow.specs.declared.FlowRecord.{FlowRecord}
 use Rattle.flow.specs.declared.FlowHeard.{FlowHeard}
+use Rattle.flow.specs.Refusal.{number}
 use Rattle.flow.specs.Answer.{FlowAnswer, No, Silent, Report, FlowOutcome}
 
 -- the single float of a whole number
@@ -32,10 +33,10 @@ unfoldable pub is_share : Float → Bool
 is_share x = between (whole 0) (whole 1) x
 
 -- "A share becomes a flow by one rounded product with nominal."
-abbrev pub measured : Float → Reading → Measured
-measured nominal (Flow x) = pick (is_flow x) (At x) Refused
-measured nominal (Share x) = pick (is_share x) (At (mul binary32 nominal x)) Refused
-measured nominal Broken = Nothing
+abbrev pub measured : Float → Reading → Result (Option Float) FlowRefusal
+measured nominal (Flow x) = pick (is_flow x) (Ok (Some x)) (Err By.Reading)
+measured nominal (Share x) = pick (is_share x) (Ok (Some (mul binary32 nominal x))) (Err By.Reading)
+measured nominal Broken = Ok None
 
 -- "whose rounded product with nominal is not above the rounded product of 100 and the flow"
 unfoldable pub qualifies : Float → Float → ℕ → Bool
@@ -89,10 +90,10 @@ abbrev pub told : FlowRecord → Float → FlowOutcome
 told r x = pick (due_at r x) (outcome (reported r x) (Report x (percent_of r.nominal x))) (outcome r Silent)
 
 -- "One accepted call is one tick"; "Broken counts a tick and sends nothing."; 23
-abbrev pub hears : FlowRecord → Measured → FlowOutcome
-hears r (At x) = told (ticked r) x
-hears r Nothing = outcome (ticked r) Silent
-hears r Refused = outcome r (No 23)
+abbrev pub hears : FlowRecord → Result (Option Float) FlowRefusal → FlowOutcome
+hears r (Ok (Some x)) = told (ticked r) x
+hears r (Ok None) = outcome (ticked r) Silent
+hears r (Err e) = outcome r (No (number e))
 
 -- "22 when nominal or ActFlowCOV isn't between 1 and 1,000,000, the time is outside 1 to 3600"
 unfoldable pub settings_fit : Float → Float → ℕ → Bool

@@ -1,5 +1,5 @@
 -- Laws of the flow record: what 22 asks, part by part, and that a record which it does not refuse stays so.
-use Rattle.std.specs.Prelude.{◌≡◌, refl, true, false, ◌&&◌, ℕ, ◌≤◌, T, leb, Float}
+use Rattle.std.specs.Prelude.{◌≡◌, refl, true, false, ◌&&◌, ℕ, ◌≤◌, T, leb, Float, Option, Some, None, Result, Ok, Err}
 use Rattle.std.proofs.Common.{subst, ◌∙◌, arith, leb-true}
 use Rattle.std.proofs.Math.Bool.{and-true}
 use Rattle.std.specs.Float.{binary32}
@@ -9,8 +9,8 @@ use Rattle.numbers.specs.Numbers.{is_flag}
 use Rattle.numbers.specs.Laws.{cases, and_left, and_right, and_intro, pick_elim}
 use Rattle.flow.specs.declared.Reading.{Reading}
 use Rattle.flow.specs.declared.Reading.TheVariants.{Flow, Share, Broken}
-use Rattle.flow.specs.declared.Measured.{Measured}
-use Rattle.flow.specs.declared.Measured.TheVariants.{At, Nothing, Refused}
+use Rattle.flow.specs.declared.FlowRefusal.{FlowRefusal}
+use Rattle.flow.specs.declared.FlowRefusal.TheVariants as By
 use Rattle.flow.specs.declared.FlowRecord.{FlowRecord}
 use Rattle.flow.specs.Answer.{No, FlowOutcome}
 use Rattle.flow.specs.Flow.{whole, between, is_setting, is_flow, is_share, measured, apart, fresh_record, settings_fit, well_formed, ticked, reported, due_at, told, hears, hear_of, outcome}
@@ -101,39 +101,54 @@ share_flow n x r s =
         (mul_mono binary32 n (whole 1000000) y (whole 1) np (whole_positive 1000000 (omega arith) (omega arith)) p (whole_positive 1 (omega arith) (omega arith))
         (le_million n r) u))
 
-pub at_eq : {y x : Float} → At y ≡ At x → y ≡ x
-at_eq p = cc
-
--- what is refused has no flow
-pub refused_at : {x : Float} → Refused ≡ At x → ⊥
-refused_at p = let z : ◌≡◌ {A = ℕ} 0 1 = cc in omega arith
-
-pub nothing_at : {x : Float} → Nothing ≡ At x → ⊥
-nothing_at p = let z : ◌≡◌ {A = ℕ} 0 1 = cc in omega arith
+-- a reading is refused by 23 alone
+pub refused_by_23 : (n : Float) (got : Reading) (refusal : FlowRefusal) → measured n got ≡ Err refusal → refusal ≡ By.Reading
+refused_by_23 n (Flow y) refusal e = cases (is_flow y) (λ q. let e· = rw q at e in cc) (λ q. let e· = rw q at e in cc)
+refused_by_23 n (Share y) refusal e = cases (is_share y) (λ q. let e· = rw q at e in cc) (λ q. let e· = rw q at e in cc)
+refused_by_23 n Broken refusal e = cc
 
 -- so is every flow that a reading stands for
-pub measured_flow : (n : Float) (got : Reading) (x : Float) → is_setting n ≡ true → measured n got ≡ At x → is_flow x ≡ true
-measured_flow n (Flow y) x r e = cases (is_flow y) (λ q. rw (← (at_eq (rw q at e))) q) (λ q. absurd (refused_at (rw q at e)))
-measured_flow n (Share y) x r e = cases (is_share y) (λ q. rw (← (at_eq (rw q at e))) (share_flow n y r q)) (λ q. absurd (refused_at (rw q at e)))
-measured_flow n Broken x r e = absurd (nothing_at e)
+pub measured_flow : (n : Float) (got : Reading) (x : Float) → is_setting n ≡ true → measured n got ≡ Ok (Some x) → is_flow x ≡ true
+measured_flow n (Flow y) x r e =
+    cases (is_flow y)
+    (λ q. let e· = rw q at e in let same : y ≡ x = cc in rw (← same) q)
+    (λ q. let e· = rw q at e in cc)
+measured_flow n (Share y) x r e =
+    cases (is_share y)
+    (λ q. let e· = rw q at e in let same : mul binary32 n y ≡ x = cc in rw (← same) (share_flow n y r q))
+    (λ q. let e· = rw q at e in cc)
+measured_flow n Broken x r e = cc
+
+-- so one of them as the last one sent leaves a record that 22 does not refuse, whatever since is and whether it was sent
+pub formed_told : (r : FlowRecord) (got : Reading) (x : Float) (since sent : ℕ) → well_formed r ≡ true → is_flag sent ≡ true
+    → measured r.nominal got ≡ Ok (Some x)
+    → well_formed (record { nominal = r.nominal; cov = r.cov; last = x; time = r.time; since = since; sent = sent }) ≡ true
+unfolding well_formed
+formed_told r got x since sent e f m = and_intro (and_intro (parts r e).settings (measured_flow r.nominal got x (nominal_set r e) m)) f
 
 -- An accepted call leaves a record that 22 does not refuse.
 told_kept : (r : FlowRecord) (x : Float) → well_formed r ≡ true → is_flow x ≡ true → well_formed (told r x).state ≡ true
 told_kept r x e f = pick_elim (λ (o : FlowOutcome). well_formed o.state ≡ true) (due_at r x) (λ q. formed_reported r x e f) (λ q. e)
 
-pub hears_kept : (r : FlowRecord) (m : Measured) → well_formed r ≡ true → ((x : Float) → m ≡ At x → is_flow x ≡ true) → well_formed (hears r m).state ≡ true
-hears_kept r (At x) e f = told_kept (ticked r) x (formed_ticked r ∙ e) (f x refl)
-hears_kept r Nothing e f = formed_ticked r ∙ e
-hears_kept r Refused e f = e
+pub hears_kept : (r : FlowRecord) (m : Result (Option Float) FlowRefusal) → well_formed r ≡ true
+    → ((x : Float) → m ≡ Ok (Some x) → is_flow x ≡ true) → well_formed (hears r m).state ≡ true
+hears_kept r (Ok (Some x)) e f = told_kept (ticked r) x (formed_ticked r ∙ e) (f x refl)
+hears_kept r (Ok None) e f = formed_ticked r ∙ e
+hears_kept r (Err refusal) e f = e
 
 pub hear_kept : (r : FlowRecord) (got : Reading) → well_formed r ≡ true → well_formed (hear_of r got).state ≡ true
 unfolding hear_of
 hear_kept r got e = rw e (hears_kept r (measured r.nominal got) e (λ x. measured_flow r.nominal got x (nominal_set r e)))
 
 -- a reading out of its range, and a record
-pub reading_refused : (r : FlowRecord) (got : Reading) → well_formed r ≡ true → measured r.nominal got ≡ Refused → hear_of r got ≡ outcome r (No 23)
+pub reading_refused : (r : FlowRecord) (got : Reading) → well_formed r ≡ true → measured r.nominal got ≡ Err By.Reading
+    → hear_of r got ≡ outcome r (No 23)
 unfolding hear_of
 reading_refused r got e f = rw (e, f)
+
+pub record_taken : (r : FlowRecord) (got : Reading) → well_formed r ≡ true → hear_of r got ≡ hears r (measured r.nominal got)
+unfolding hear_of
+record_taken r got e = rw e
 
 pub record_refused : (r : FlowRecord) (got : Reading) → well_formed r ≡ false → hear_of r got ≡ outcome r (No 22)
 unfolding hear_of

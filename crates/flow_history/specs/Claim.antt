@@ -1,13 +1,13 @@
 -- Document 02, W-209, as a claim about a list of readings that are given to one record, fresh at first. From the flow box come only its
 -- answers; which calls are accepted, the flow of each, the last flow sent and the ticks are read off the list, by the settings with which
 -- the record was made.
-use Rattle.std.specs.Prelude.{◌≡◌, Bool, true, false, ◌&&◌, List, [], ◌∷◌, ◌++◌, ℕ, ◌+◌, ◌≤◌, min, leb, Float}
+use Rattle.std.specs.Prelude.{◌≡◌, Bool, true, false, ◌&&◌, List, [], ◌∷◌, ◌++◌, ℕ, ◌+◌, ◌≤◌, min, leb, Float, Option, Some, None, Result, Ok, Err}
 use Rattle.std.specs.Float.Ieee.{le, lt}
 use Rattle.numbers.specs.Numbers.{pick}
 use Rattle.numbers.specs.Counts as Counts
 use Rattle.flow.specs.declared.Reading.{Reading}
-use Rattle.flow.specs.declared.Measured.{Measured}
-use Rattle.flow.specs.declared.Measured.TheVariants.{At, Nothing, Refused}
+use Rattle.flow.specs.declared.FlowRefusal.{FlowRefusal}
+use Rattle.flow.specs.declared.FlowRefusal.TheVariants as By
 use Rattle.flow.specs.declared.FlowRecord.{FlowRecord}
 use Rattle.flow.specs.Answer.{FlowAnswer, No, Silent, Report, FlowOutcome, number_of, is_report}
 use Rattle.flow.specs.Flow.{whole, measured, apart, fresh_record, settings_fit, Greatest}
@@ -38,14 +38,14 @@ abbrev pub Trace : Type 0
 Trace = List Moment
 
 -- the flow that a call gives, by the list's own judgement: none where 22 refuses the settings, or 23 the reading
-abbrev pub flow_in : Settings → Moment → Measured
-flow_in s m = pick (fit s) (measured s.nominal m.reading) Refused
+abbrev pub flow_in : Settings → Moment → Result (Option Float) FlowRefusal
+flow_in s m = pick (fit s) (measured s.nominal m.reading) (Err By.Record)
 
 -- "One accepted call is one tick": a flow, a share or broken
-abbrev pub taken : Measured → Bool
-taken (At x) = true
-taken Nothing = true
-taken Refused = false
+abbrev pub taken : Result (Option Float) FlowRefusal → Bool
+taken (Ok (Some x)) = true
+taken (Ok None) = true
+taken (Err refusal) = false
 
 abbrev pub accepted : Settings → Moment → Trace → Bool
 accepted s m t = taken (flow_in s m)
@@ -109,14 +109,14 @@ Spacing s m t = (between : Trace) (x : Moment) (old : Trace) → t ≡ between +
 -- waiting: where ActFlowMinRepTime accepted calls in a row pass without report and the last of them, `m`, has the flow `x`, a flow
 -- was sent, and the rounded difference from the last one sent is below ActFlowCOV
 abbrev pub Waiting : Settings → Moment → Trace → Type 0
-Waiting s m t = (row old : Trace) (x : Float) → m ∷ t ≡ row ++ old → flow_in s m ≡ At x → ticks_in s row old ≡ s.time → Quiet old row
+Waiting s m t = (row old : Trace) (x : Float) → m ∷ t ≡ row ++ old → flow_in s m ≡ Ok (Some x) → ticks_in s row old ≡ s.time → Quiet old row
     → (y : Float) × (last_sent (m ∷ t) ≡ sent y) × (lt (apart x y) s.cov ≡ true)
 
 -- content: a report carries the flow of its call and the percent of that flow, which is the greatest, and is the last one sent then
 pub record Carries (s : Settings) (m : Moment) (t : Trace) : Type 0 where
   pub flow : Float
   pub percent : ℕ
-  pub given : flow_in s m ≡ At flow
+  pub given : flow_in s m ≡ Ok (Some flow)
   pub said : m.answer ≡ Report flow percent
   pub greatest : Greatest s.nominal flow percent
   pub last : last_sent (m ∷ t) ≡ sent flow
@@ -126,11 +126,11 @@ Content s m t = reports m ≡ true → Carries s m t
 
 -- a call with a flow reports just where it is due by the list
 abbrev pub Due : Settings → Moment → Trace → Type 0
-Due s m t = (x : Float) → flow_in s m ≡ At x → reports m ≡ due_in s t x
+Due s m t = (x : Float) → flow_in s m ≡ Ok (Some x) → reports m ≡ due_in s t x
 
 -- "Broken counts a tick and sends nothing", and what is refused sends nothing
 abbrev pub Others : Settings → Moment → Trace → Type 0
-Others s m t = ((x : Float) → flow_in s m ≡ At x → ⊥) → reports m ≡ false
+Others s m t = ((x : Float) → flow_in s m ≡ Ok (Some x) → ⊥) → reports m ≡ false
 
 -- 22, and "23, after 22"; no other call is refused
 abbrev pub Refusal : Settings → Moment → Trace → Type 0

@@ -1,5 +1,5 @@
 -- What one reading does to a record that agrees with the list so far.
-use Rattle.std.specs.Prelude.{◌≡◌, Bool, not, ◌||◌, ◌∷◌, ℕ, ◌+◌, ◌<◌, ◌≤◌, min, leb, Float}
+use Rattle.std.specs.Prelude.{◌≡◌, Bool, not, ◌||◌, ◌∷◌, ℕ, ◌+◌, ◌<◌, ◌≤◌, min, leb, Float, Option, Some, None, Result, Ok, Err}
 use Rattle.std.proofs.Math.Path.{refl}
 use Rattle.std.proofs.Common.{sym, subst, ◌∙◌, arith, leb-true, leb-false, le-leb}
 use Rattle.std.proofs.Math.Bool.{true, false, and-true}
@@ -9,9 +9,9 @@ use Rattle.numbers.specs.Numbers.{pick, on, is_flag, next}
 use Rattle.numbers.specs.Laws.{cases}
 use Rattle.numbers.specs.Counts as Counts
 use Rattle.flow.specs.declared.Reading.{Reading}
-use Rattle.flow.specs.declared.Measured.{Measured}
-use Rattle.flow.specs.declared.Measured.TheVariants.{At, Nothing, Refused}
+use Rattle.flow.specs.declared.FlowRefusal.{FlowRefusal}
 use Rattle.flow.specs.declared.FlowRecord.{FlowRecord}
+use Rattle.flow.specs.Refusal.{number}
 use Rattle.flow.specs.Answer.{FlowAnswer, No, Silent, Report, FlowOutcome}
 use Rattle.flow.specs.Flow.{is_flow, measured, apart, percent_of, ticked, due_by, due_at, told, hears, well_formed, hear_of, outcome}
 use Rattle.flow.specs.Laws.{settings, parts, hear_kept, record_refused}
@@ -33,10 +33,10 @@ differs_law cov x silent = refl
 differs_law cov x (sent y) = refl
 
 -- what a call answers that gives this flow, read off the list, where 22 takes the settings
-abbrev pub answer_by : Settings → Trace → Measured → FlowAnswer
-answer_by s t (At x) = pick (C.due_in s t x) (Report x (percent_of s.nominal x)) Silent
-answer_by s t Nothing = Silent
-answer_by s t Refused = No 23
+abbrev pub answer_by : Settings → Trace → Result (Option Float) FlowRefusal → FlowAnswer
+answer_by s t (Ok (Some x)) = pick (C.due_in s t x) (Report x (percent_of s.nominal x)) Silent
+answer_by s t (Ok None) = Silent
+answer_by s t (Err refusal) = No (number refusal)
 
 -- the last flow sent is one from 0 to 1,000,000
 abbrev pub IsFlow : Sent → Type 0
@@ -65,23 +65,23 @@ module _ (s : Settings) (t : Trace) (fits : C.fit s ≡ true) where
   told_answer x true e = rw e
   told_answer x false e = rw e
 
-  hears_answer : (m : Measured) → (hears (C.standing s t) m).answer ≡ answer_by s t m
-  hears_answer (At x) = told_answer x _ (due_law x)
-  hears_answer Nothing = refl
-  hears_answer Refused = refl
+  hears_answer : (m : Result (Option Float) FlowRefusal) → (hears (C.standing s t) m).answer ≡ answer_by s t m
+  hears_answer (Ok (Some x)) = told_answer x _ (due_law x)
+  hears_answer (Ok None) = refl
+  hears_answer (Err refusal) = refl
 
-  told_state : (x : Float) (got : Reading) (b : Bool) → measured s.nominal got ≡ At x → due_at (ticked (C.standing s t)) x ≡ b
+  told_state : (x : Float) (got : Reading) (b : Bool) → measured s.nominal got ≡ Ok (Some x) → due_at (ticked (C.standing s t)) x ≡ b
       → (told (ticked (C.standing s t)) x).state ≡ C.standing s (moment got (told (ticked (C.standing s t)) x).answer ∷ t)
   unfolding C.last_sent Counts.since
   told_state x got true g e = rw e
   told_state x got false g e = rw (e, fits, g, next_law (C.since s t))
 
-  hears_state : (got : Reading) (m : Measured) → measured s.nominal got ≡ m
+  hears_state : (got : Reading) (m : Result (Option Float) FlowRefusal) → measured s.nominal got ≡ m
       → (hears (C.standing s t) m).state ≡ C.standing s (moment got (hears (C.standing s t) m).answer ∷ t)
   unfolding C.last_sent Counts.since
-  hears_state got (At x) g = told_state x got _ g refl
-  hears_state got Nothing g = rw (fits, g, next_law (C.since s t))
-  hears_state got Refused g = rw (fits, g)
+  hears_state got (Ok (Some x)) g = told_state x got _ g refl
+  hears_state got (Ok None) g = rw (fits, g, next_law (C.since s t))
+  hears_state got (Err refusal) g = rw (fits, g)
 
 -- A record that agrees with the list, and a reading.
 module _ (s : Settings) (t : Trace) (f : IsFlow (C.last_sent t)) (got : Reading) where

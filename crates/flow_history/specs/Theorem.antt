@@ -1,5 +1,5 @@
 -- The claim, of every list of readings to a record that was fresh at first.
-use Rattle.std.specs.Prelude.{◌≡◌, Bool, ◌&&◌, ◌+◌, ◌≤◌, Float}
+use Rattle.std.specs.Prelude.{◌≡◌, Bool, ◌&&◌, ◌+◌, ◌≤◌, Float, Option, Some, None, Result, Ok, Err}
 use Rattle.std.proofs.Math.Path.{refl, sym, ap, subst}
 use Rattle.std.proofs.Common.{◌∙◌}
 use Rattle.std.proofs.Math.Bool.{true, false}
@@ -14,20 +14,22 @@ use Rattle.numbers.specs.Laws.{cases, and_left}
 use Rattle.numbers.specs.Counts as Counts
 use Rattle.numbers.specs.CountLaws.{report_apart, quiet_last}
 use Rattle.flow.specs.declared.Reading.{Reading}
-use Rattle.flow.specs.declared.Measured.{Measured}
-use Rattle.flow.specs.declared.Measured.TheVariants.{At, Nothing, Refused}
+use Rattle.flow.specs.declared.FlowRefusal.{FlowRefusal}
+use Rattle.flow.specs.declared.FlowRefusal.TheVariants as By
 use Rattle.flow.specs.declared.FlowRecord.{FlowRecord}
+use Rattle.flow.specs.Refusal.{number}
 use Rattle.flow.specs.Answer.{FlowAnswer, No, Silent, Report, number_of, is_report}
 use Rattle.flow.specs.Flow.{is_flow, measured, apart, percent_of, hear_of}
 use Rattle.flow.specs.PercentLaws.{percent_greatest}
-use Rattle.flow.specs.Laws.{zero_flow, settings, refused_at, measured_flow, below_cov}
+use Rattle.flow.specs.Laws.{zero_flow, settings, refused_by_23, measured_flow, below_cov}
 use Rattle.flow_history.specs.Claim as C
 use Rattle.flow_history.specs.Claim.{Settings, Moment, moment, Trace, Sent, silent, sent}
 use Rattle.flow_history.specs.Steps.{IsFlow, answer_by, stands, answered, flow_kept}
 
 -- a call has a flow where 22 takes the settings and the reading gives it
-pub flow_fits : (s : Settings) (m : Moment) (x : Float) → C.flow_in s m ≡ At x → (C.fit s ≡ true) × (measured s.nominal m.reading ≡ At x)
-flow_fits s m x f = cases (C.fit s) (λ e. (e, rw e at f)) (λ e. absurd (refused_at (rw e at f)))
+pub flow_fits : (s : Settings) (m : Moment) (x : Float) → C.flow_in s m ≡ Ok (Some x)
+    → (C.fit s ≡ true) × (measured s.nominal m.reading ≡ Ok (Some x))
+flow_fits s m x f = cases (C.fit s) (λ e. (e, rw e at f)) (λ e. let g = rw e at f in cc)
 
 -- where nothing differs a flow was sent
 pub near : (cov x : Float) (l : Sent) → C.differs cov x l ≡ false → (y : Float) × (l ≡ sent y) × (le cov (apart x y) ≡ false)
@@ -43,13 +45,14 @@ silent_in (Report x p) r = absurd (false≢true (sym r))
 -- Of a call whose answer is the one read off the list.
 module _ (s : Settings) (m : Moment) (t : Trace) where
   -- which of the three a reading is
-  by_flow : {A : Type 0} (f : Measured) → ((x : Float) → f ≡ At x → A) → (f ≡ Nothing → A) → (f ≡ Refused → A) → A
-  by_flow (At x) a b c = a x refl
-  by_flow Nothing a b c = b refl
-  by_flow Refused a b c = c refl
+  by_flow : {A : Type 0} (f : Result (Option Float) FlowRefusal) → ((x : Float) → f ≡ Ok (Some x) → A) → (f ≡ Ok None → A)
+      → ((refusal : FlowRefusal) → f ≡ Err refusal → A) → A
+  by_flow (Ok (Some x)) a b c = a x refl
+  by_flow (Ok None) a b c = b refl
+  by_flow (Err refusal) a b c = c refusal refl
 
   module _ (e : m.answer ≡ pick (C.fit s) (answer_by s t (C.flow_in s m)) (No 22)) where
-    answer_at : (x : Float) → C.flow_in s m ≡ At x → m.answer ≡ pick (C.due_in s t x) (Report x (percent_of s.nominal x)) Silent
+    answer_at : (x : Float) → C.flow_in s m ≡ Ok (Some x) → m.answer ≡ pick (C.due_in s t x) (Report x (percent_of s.nominal x)) Silent
     answer_at x f = e ∙ ap (λ (b : Bool). pick b (answer_by s t (C.flow_in s m)) (No 22)) (flow_fits s m x f).0 ∙ ap (answer_by s t) f
 
     due : C.Due s m t
@@ -60,18 +63,18 @@ module _ (s : Settings) (m : Moment) (t : Trace) where
         go false = refl
 
     -- no flow, no report
-    answer_else : (f : Measured) → C.flow_in s m ≡ f → m.answer ≡ pick (C.fit s) (answer_by s t f) (No 22)
-    answer_else f g = e ∙ ap (λ (u : Measured). pick (C.fit s) (answer_by s t u) (No 22)) g
+    answer_else : (f : Result (Option Float) FlowRefusal) → C.flow_in s m ≡ f → m.answer ≡ pick (C.fit s) (answer_by s t f) (No 22)
+    answer_else f g = e ∙ ap (λ (u : Result (Option Float) FlowRefusal). pick (C.fit s) (answer_by s t u) (No 22)) g
 
     unsent : (b : Bool) (a : FlowAnswer) → is_report a ≡ false → is_report (pick b a (No 22)) ≡ false
     unsent true a r = r
     unsent false a r = refl
 
-    nothing_silent : C.flow_in s m ≡ Nothing → C.reports m ≡ false
-    nothing_silent f = ap is_report (answer_else Nothing f) ∙ unsent (C.fit s) Silent refl
+    nothing_silent : C.flow_in s m ≡ Ok None → C.reports m ≡ false
+    nothing_silent f = ap is_report (answer_else (Ok None) f) ∙ unsent (C.fit s) Silent refl
 
-    refused_silent : C.flow_in s m ≡ Refused → C.reports m ≡ false
-    refused_silent f = ap is_report (answer_else Refused f) ∙ unsent (C.fit s) (No 23) refl
+    refused_silent : (refusal : FlowRefusal) → C.flow_in s m ≡ Err refusal → C.reports m ≡ false
+    refused_silent refusal f = ap is_report (answer_else (Err refusal) f) ∙ unsent (C.fit s) (No (number refusal)) refl
 
     others : C.Others s m t
     others h = by_flow (C.flow_in s m) (λ x f. absurd (h x f)) nothing_silent refused_silent
@@ -80,34 +83,41 @@ module _ (s : Settings) (m : Moment) (t : Trace) where
     refusal =
         by_flow (C.flow_in s m)
         (λ x f. ap number_of (answer_at x f) ∙ go x (C.due_in s t x) ∙ sym (rw ((flow_fits s m x f).0, (flow_fits s m x f).1)))
-        (λ f. ap number_of (answer_else Nothing f) ∙ number (C.fit s) Silent ∙ sym (rw f))
-        (λ f. ap number_of (answer_else Refused f) ∙ number (C.fit s) (No 23) ∙ sym (rw f))
+        (λ f. ap number_of (answer_else (Ok None) f) ∙ numbered (C.fit s) Silent ∙ sym (rw f))
+        (λ refusal f.
+        ap number_of (answer_else (Err refusal) f) ∙ numbered (C.fit s) (No (number refusal))
+        ∙ by_23 (C.fit s) refusal (λ q. refused_by_23 _ _ _ (rw q at f))
+        ∙ sym (rw f))
       where
         go : (x : Float) (b : Bool) → number_of (pick b (Report x (percent_of s.nominal x)) Silent) ≡ 0
         go x true = refl
         go x false = refl
 
-        number : (b : Bool) (a : FlowAnswer) → number_of (pick b a (No 22)) ≡ pick b (number_of a) 22
-        number true a = refl
-        number false a = refl
+        numbered : (b : Bool) (a : FlowAnswer) → number_of (pick b a (No 22)) ≡ pick b (number_of a) 22
+        numbered true a = refl
+        numbered false a = refl
+
+        by_23 : (b : Bool) (refusal : FlowRefusal) → (b ≡ true → refusal ≡ By.Reading) → pick b (number refusal) 22 ≡ pick b 23 22
+        by_23 true refusal h = ap number (h refl)
+        by_23 false refusal h = refl
 
     silence : C.Silence s m t
     silence k r =
         by_flow (C.flow_in s m)
         (λ x f. answer_at x f ∙ ap (λ (b : Bool). pick b (Report x (percent_of s.nominal x)) Silent) (sym (due x f) ∙ r))
-        (λ f. answer_else Nothing f ∙ rw fits)
-        (λ f. absurd (false≢true (sym (ap C.taken f) ∙ k)))
+        (λ f. answer_else (Ok None) f ∙ rw fits)
+        (λ refusal f. absurd (false≢true (sym (ap C.taken f) ∙ k)))
       where
         fits : C.fit s ≡ true
         fits = cases (C.fit s) (λ e. e) (λ e. absurd (false≢true (rw e at k)))
 
     -- a call that reports has a flow, which is due
-    sent_flow : C.reports m ≡ true → (x : Float) × (C.flow_in s m ≡ At x) × (C.due_in s t x ≡ true)
+    sent_flow : C.reports m ≡ true → (x : Float) × (C.flow_in s m ≡ Ok (Some x)) × (C.due_in s t x ≡ true)
     sent_flow r =
         by_flow (C.flow_in s m)
         (λ x f. (x, f, sym (due x f) ∙ r))
         (λ f. absurd (false≢true (sym (nothing_silent f) ∙ r)))
-        (λ f. absurd (false≢true (sym (refused_silent f) ∙ r)))
+        (λ refusal f. absurd (false≢true (sym (refused_silent refusal f) ∙ r)))
 
     content : C.Content s m t
     unfolding C.last_sent

@@ -1,7 +1,8 @@
 -- Laws of a call's refusal and of its turns.
-use Rattle.std.specs.Prelude.{◌≡◌, Bool, true, false, ◌||◌, List, [], ◌∷◌, ◌++◌, ℕ, zero, suc, ◌+◌, ◌<◌, ◌≤◌, ltb, leb, eqb, get_or, set, take, drop}
+use Rattle.std.specs.Prelude.{◌≡◌, Bool, true, false, ◌||◌, List, [], ◌∷◌, ◌++◌, ℕ, zero, suc, ◌+◌, ◌<◌, ◌≤◌, ltb, leb, eqb, get_or, set, take}
+use Rattle.std.specs.List.{list_any}
 use Rattle.std.proofs.Math.Path.{refl, sym}
-use Rattle.std.proofs.Common.{ap, ◌∙◌, arith, not-suc-le-zero, le_of_suc-le-suc, add-one, length-set, length-append, length-take, length-drop, drop_of_length-le, drop-cons, take-suc, le-leb, leb-false, ltb-false, eqb-true, eq-eqb, ne_eqb}
+use Rattle.std.proofs.Common.{ap, ◌∙◌, arith, not-suc-le-zero, le_of_suc-le-suc, add-one, length-set, length-append, length-take, length-drop, take-suc, leb-false, ltb-false, eqb-true, eq-eqb, ne_eqb}
 use Rattle.std.proofs.Math.ListN.{length, get_or-map}
 use Rattle.std.proofs.lemmas.List.{length-map}
 use Rattle.std.proofs.Math.Seq.{take-length, length-take-le}
@@ -9,6 +10,9 @@ use Rattle.std.proofs.lemmas.Bool.{lt-leb}
 use Rattle.numbers.specs.Numbers.{pick}
 use Rattle.numbers.specs.Laws.{or_left, or_right, passed, cases}
 use Rattle.answer.specs.declared.Answer.{Answer}
+use Rattle.answer.specs.declared.refusal.Refusal.{Refusal}
+use Rattle.answer.specs.declared.refusal.Refusal.TheVariants as R
+use Rattle.answer.specs.Refusal.{number}
 use Rattle.damper.specs.declared.Drive.{Drive}
 use Rattle.damper.specs.declared.Outcome.{Outcome}
 use Rattle.damper.specs.Carry.{StepOn, answers_in}
@@ -16,19 +20,11 @@ use Rattle.damper.specs.CarryLaws.{answers_more}
 use Rattle.hall.specs.Hall.{Call, give, bad_row, bad_number, is_tick, bad_event, bad_quota, tick_refusal, event_refusal, refusal_to16, call_refusal, at}
 use Rattle.hall.specs.Turns.{Given, bytes, Turn, turn, turns_of, row_with, turned, row_after, answer_number, answers_after}
 
--- the numbers of a list from `k` on: the one at `k`, and those behind it
-pub bad_here : (n k : ℕ) (list : List ℕ) → k < length list → n ≤ get_or list k 0 → bad_number n (drop k list) ≡ true
+-- the test of the whole list is the library's
+pub bad_number_is : (n : ℕ) (list : List ℕ) → list_any (leb n) list ≡ bad_number n list
 unfolding bad_number
-bad_here n k list h l =
-    rw (drop-cons list k 0) (ap (λ (b : Bool). b || bad_number n (drop (suc k) list)) (le-leb n (get_or list k 0) l))
-
-pub good_here : (n k : ℕ) (list : List ℕ) → k < length list → get_or list k 0 < n → bad_number n (drop k list) ≡ bad_number n (drop (k + 1) list)
-unfolding bad_number
-good_here n k list h l = rw (add-one, drop-cons list k 0, lt-leb _ _ l)
-
-pub good_end : (n k : ℕ) (list : List ℕ) → length list ≤ k → bad_number n (drop k list) ≡ false
-unfolding bad_number
-good_end n k list h = rw (drop_of_length-le list h)
+bad_number_is n [] = refl
+bad_number_is n (i ∷ list) = ap (λ (b : Bool). leb n i || b) (bad_number_is n list)
 
 -- each number of a list that has no badNumber one is that of a drive
 pub good_at : (n : ℕ) (list : List ℕ) → bad_number n list ≡ false → (k : ℕ) → k < length list → get_or list k 0 < n
@@ -38,7 +34,7 @@ good_at n (i ∷ list) e zero h = leb-false n i (or_left (leb n i) _ e)
 good_at n (i ∷ list) e (suc k) h = good_at n list (or_right (leb n i) _ e) k (le_of_suc-le-suc h)
 
 -- and of a longer row
-bad_longer : (n m : ℕ) (list : List ℕ) → n ≤ m → bad_number n list ≡ false → bad_number m list ≡ false
+pub bad_longer : (n m : ℕ) (list : List ℕ) → n ≤ m → bad_number n list ≡ false → bad_number m list ≡ false
 unfolding bad_number
 bad_longer n m [] h e = refl
 bad_longer n m (i ∷ list) h e =
@@ -84,10 +80,6 @@ module _ (n : ℕ) (list s : List ℕ) (room : ℕ) where
 
   pub refused_before : (more : ℕ) → (first ≡ 0 → ⊥) → event_refusal n list s room more ≡ first
   refused_before more e = after_16 more ∙ rw (ne_eqb first 0 e)
-
-  -- where it is asked, each number of the list is below 64
-  pub few_numbers : first ≡ 0 → bad_number 64 list ≡ false
-  few_numbers e = let p = event_passed n list s room 0 e in bad_longer n 64 list (row_few n p.0) p.1
 
   pub first_most : first ≤ 16
   first_most = most_of (bad_row n) (bad_number n list) (bad_event list s room)
@@ -156,6 +148,38 @@ give_turns row room s list stop e =
       each = λ k l. get_or-map (turn (bytes s)) list k 0;
     }))
     (λ h. rw h (no_turns n room s _)))
+
+-- no refusal has the number 0
+pub number_some : (r : Refusal) → 1 ≤ number r
+number_some R.Record = omega arith
+number_some R.Length = omega arith
+number_some R.Mark = omega arith
+number_some R.Kind = omega arith
+number_some R.Unused = omega arith
+number_some R.Value = omega arith
+number_some R.Command = omega arith
+number_some R.Percent = omega arith
+number_some R.Property = omega arith
+number_some R.Range = omega arith
+number_some R.LowAboveHigh = omega arith
+number_some R.RateInRun = omega arith
+number_some R.Blocked = omega arith
+number_some R.Row = omega arith
+number_some R.Number = omega arith
+number_some R.Call = omega arith
+number_some R.Page = omega arith
+number_some R.Quota = omega arith
+number_some R.Twice = omega arith
+number_some R.Bill = omega arith
+number_some R.Unmoved = omega arith
+
+-- a call that is refused changes nothing
+pub untouched : (step : StepOn Given) (row : List Drive) (c : Call) (answers : List ℕ) (r : Refusal) → number r ≡ call_refusal (length row) c
+    → (row ≡ row_after step row (turns_of row c)) × (answers ≡ answers_after step row c answers)
+unfolding turns_of turned row_after answers_after answers_in
+untouched step row c answers r judged =
+    let some = number_some r in
+    rw (← judged, ne_eqb (number r) 0 (λ e. omega (arith, e, some))) (refl, refl)
 
 -- Turns in two parts: the second are taken on the row that the first left.
 

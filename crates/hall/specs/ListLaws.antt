@@ -1,12 +1,14 @@
 -- Laws of a list of drive numbers: which it names, when one of them stands at two places of it, of a pass over it, and of the list of all
 -- places.
 use Rattle.std.specs.Prelude.{◌≡◌, refl, Bool, true, false, ◌||◌, List, [], ◌∷◌, ◌++◌, ℕ, zero, suc, ◌+◌, ◌<◌, ◌≤◌, eqb, length, get_or, take}
-use Rattle.std.proofs.Common.{sym, ap, ◌∙◌, arith, not-suc-le-zero, le_of_suc-le-suc, add-one, take-suc, length-take-le, get_or-take, eqb-true, eq-eqb, ne_eqb}
+use Rattle.std.proofs.Common.{sym, ap, ◌∙◌, arith, not-suc-le-zero, le_of_suc-le-suc, add-one, take-suc, take_all, length-take-le, get_or-take, eqb-true, eq-eqb, ne_eqb}
 use Rattle.std.proofs.Math.Bool.{or-true}
 use Rattle.std.proofs.lemmas.Bool.{false≢true, eqb-false}
 use Rattle.numbers.specs.Laws.{cases, or_swap, or_cross, eqb_swap}
+use Rattle.numbers.specs.FlagLaws.{no_flag}
 use Rattle.numbers.specs.Places.{places_from}
 use Rattle.hall.specs.Hall.{named_in, names_twice}
+use Rattle.hall.specs.Laws.{good_at}
 
 -- A list names the numbers that stand at its places.
 pub named_at : (list : List ℕ) (k : ℕ) → k < length list → named_in (get_or list k 0) list ≡ true
@@ -70,6 +72,9 @@ met_again k list h e =
 pub met_once : (k : ℕ) (list : List ℕ) → k < length list → names_twice (take k list) ≡ false → named_in (get_or list k 0) (take k list) ≡ false
     → names_twice (take (k + 1) list) ≡ false
 met_once k list h n e = rw (add-one, take-suc list k 0 h, twice_last (get_or list k 0) (take k list), e, n)
+
+-- what the pass is proved by
+pub ruleset pass = (good_at, met_more, met_again, met_once, no_flag, take_all)
 
 -- The list of all places names each of them once.
 

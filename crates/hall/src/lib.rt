@@ -1,67 +1,53 @@
-// When a hall call is refused itself, and how many turns it has.
+// When a hall call is refused itself.
 #![tactic(auto)]
 
-ghost use Rattle.std.specs.Prelude.{◌≡◌, false, ◌<◌, eqb, length, get_or};
-ghost use Rattle.numbers.specs.Numbers.{pick};
-ghost use Rattle.hall.specs.Hall.{give, bad_row, bad_number, is_tick, names_twice, tick_refusal, refusal_to16, call_refusal};
+ghost use Rattle.std.specs.Prelude.{◌≡◌, false, leb};
+ghost use Rattle.std.specs.List.{list_any};
+ghost use Rattle.answer.specs.Refusal.{refused_by};
+ghost use Rattle.hall.specs.Hall.{give, bad_row, bad_number, is_tick, names_twice, tick_refusal, call_refusal};
 
-use numbers::{flag, pick8, with_flag};
+use answer::{Refusal, refuse};
+use event::Kind;
+use numbers::{flag, with_flag};
 
-// The most drives of a row, and entries of a list.
+// The most drives of a row, entries of a list, and reports that a hall tick may be asked to send.
 const MOST: usize = 64;
 
-// The most reports that a hall tick may be asked to send.
-const MOST_REPORTS: u32 = 64;
-
-fn wide(n: u32) -> usize
-    ensures { result ≡ n }
+// Whether a number of the list reaches the bound.
+fn reaches(list: &[u32], bound: usize) -> bool
+    ensures { result ≡ list_any (leb bound) list.now }
 {
-    n as usize
-}
-
-// Entry k of a list of drive numbers.
-pub fn entry(list: &[u32], k: usize) -> usize
-    requires { k < length list.now }
-    ensures { result ≡ get_or list.now k 0 }
-{
-    wide(list[k])
+    list.iter().any(|number| bound <= *number as usize)
 }
 
 // Whether the list has a number that is not below the row's length.
+#[tactic(auto, using(crate::specs::Laws::bad_number_is))]
 fn bad_number(drives: usize, list: &[u32]) -> bool
     ensures { result ≡ bad_number drives list.now }
 {
-    let mut k: usize = 0;
-    while k < list.len() {
-        if drives <= entry(list, k) {
-            return true;
-        }
-        k += 1;
-    }
-    false
+    reaches(list, drives)
 }
 
 // Whether the reader accepts the bytes as a tick.
 fn is_tick(s: &[u8]) -> bool
     ensures { result ≡ is_tick s.now }
 {
-    event::kind_in(s) == event::TICK
+    event::kind_in(s) == Some(Kind::Tick)
 }
 
 // Whether the list names a drive twice, in one pass: flag i says that number i has been met.
+#[tactic(auto, using(crate::specs::ListLaws::pass), unfolding(crate::specs::Hall::named_in, crate::specs::Hall::names_twice))]
 fn names_twice(list: &[u32]) -> bool
     requires { bad_number 64 list.now ≡ false }
     ensures { result ≡ names_twice list.now }
 {
     let mut met: u64 = 0;
-    let mut k: usize = 0;
-    while k < list.len() {
-        let number = entry(list, k);
+    for number in list {
+        let number = *number as usize;
         if flag(met, number) {
             return true;
         }
         met = with_flag(met, number);
-        k += 1;
     }
     false
 }
@@ -73,43 +59,25 @@ pub fn bad_row(drives: usize) -> bool
     (drives < 1) | (MOST < drives)
 }
 
-// The first of 14 to 16 that fits an event call, or 0.
-fn first_refusal(drives: usize, list: &[u32], s: &[u8], places: usize) -> u8
-    ensures { result ≡ refusal_to16 drives list.now s.now places }
+// Refused by the first of 14, 15, 16 and 19 that fits an event call.
+#[tactic(auto, using(crate::specs::Laws::bad_longer, crate::specs::Laws::row_few), unfolding(crate::specs::Hall::call_refusal))]
+pub fn event_refusal(drives: usize, list: &[u32], s: &[u8], places: usize) -> Result<(), Refusal>
+    ensures { refused_by result ≡ call_refusal drives (give list.now s.now places) }
 {
-    let row = bad_row(drives);
-    let number = bad_number(drives, list);
-    let given = is_tick(s) | (MOST < list.len()) | (places < list.len());
-    pick8(row, 14, pick8(number, 15, pick8(given, 16, 0)))
+    refuse(bad_row(drives), Refusal::Row)?;
+    refuse(bad_number(drives, list), Refusal::Number)?;
+    refuse(
+        is_tick(s) | (MOST < list.len()) | (places < list.len()),
+        Refusal::Call,
+    )?;
+    refuse(names_twice(list), Refusal::Twice)
 }
 
-// The first of 14, 15, 16 and 19 that fits an event call, or 0.
-pub fn event_refusal(drives: usize, list: &[u32], s: &[u8], places: usize) -> u8
-    ensures { result ≡ call_refusal drives (give list.now s.now places) }
+// Refused by the first of 14, 16 and 18 that fits a hall tick.
+pub fn tick_refusal(drives: usize, quota: u32, places: usize) -> Result<(), Refusal>
+    ensures { refused_by result ≡ tick_refusal drives quota places }
 {
-    let first = first_refusal(drives, list, s, places);
-    if first == 0 {
-        pick8(names_twice(list), 19, 0)
-    } else {
-        first
-    }
-}
-
-// The first of 14, 16 and 18 that fits a hall tick, or 0.
-pub fn tick_refusal(drives: usize, quota: u32, places: usize) -> u8
-    ensures { result ≡ tick_refusal drives quota places }
-{
-    let bad_quota = (quota < 1) | (MOST_REPORTS < quota);
-    pick8(
-        bad_row(drives),
-        14,
-        pick8(places < drives, 16, pick8(bad_quota, 18, 0)),
-    )
-}
-
-// How many turns a call has: as many as it asks for, or none where it is refused.
-pub fn turns(refusal: u8, asked: usize) -> usize
-    ensures { result ≡ pick (eqb refusal 0) asked 0 }
-{
-    if refusal == 0 { asked } else { 0 }
+    refuse(bad_row(drives), Refusal::Row)?;
+    refuse(places < drives, Refusal::Call)?;
+    refuse((quota < 1) | (MOST < quota as usize), Refusal::Quota)
 }

@@ -10,55 +10,29 @@ ghost use Rattle.hall.specs.Turns.{turns_of, row_after, answers_after, hall_step
 use answer::Answer;
 use damper::Drive;
 
-// A drive after an event, and the number of its answer.
-#[derive(Clone, Copy)]
-pub struct Given {
-    pub drive: Drive,
-    pub number: u8,
-}
-
 // 0, or the refusal.
-fn number_of(a: Answer) -> u8
-    ensures { result ≡ number_of a }
+fn number_of(answer: Answer) -> u8
+    ensures { result ≡ number_of answer }
 {
-    match a {
-        Answer::No(n) => n,
-        Answer::Done => 0,
-        Answer::Par(_) => 0,
-        Answer::At {
-            position: _,
-            percent: _,
-            status: _,
-        } => 0,
-        Answer::Tick {
-            position: _,
-            rank: _,
-            motor: _,
-        } => 0,
-        Answer::Report {
-            position: _,
-            rank: _,
-            motor: _,
-            status: _,
-        } => 0,
+    match answer {
+        Answer::No(number) => number,
+        _ => 0,
     }
 }
 
-// One drive's turn.
-fn give_one(d: Drive, s: &[u8]) -> Given
-    ensures { (result.drive ≡ (step_of d s.now).drive) × (result.number ≡ number_of (step_of d s.now).answer) }
+// One drive's turn: the number of its answer.
+fn give_one(drive: &mut Drive, s: &[u8]) -> u8
+    ensures drive { drive.new ≡ (step_of drive.old s.now).drive }
+    ensures number { result ≡ number_of (step_of drive.old s.now).answer }
 {
-    let o = d.step(s);
-    let next = o.drive;
-    let a = o.answer;
-    Given {
-        drive: next,
-        number: number_of(a),
-    }
+    let outcome = drive.step(s);
+    *drive = outcome.drive;
+    number_of(outcome.answer)
 }
 
 // Gives the bytes of an event other than a tick to the drives that the list names, in its order, and fills one answer number for
 // each entry. Refused by 14, 15, 16 or 19, it changes nothing.
+// Kept: numbers, here and of each answer, since the C interface has them.
 #[unsafe(no_mangle)]
 pub extern "C" fn damper_hall_event_layout3(
     row: &mut [Drive],
@@ -70,15 +44,12 @@ pub extern "C" fn damper_hall_event_layout3(
         × (row.new ≡ row_after hall_step row.old (turns_of row.old (give list.now s.now (length answers.old))))
         × (answers.new ≡ answers_after hall_step row.old (give list.now s.now (length answers.old)) answers.old) }
 {
-    let refusal = hall::event_refusal(row.len(), list, s, answers.len());
-    let stop = hall::turns(refusal, list.len());
-    let mut k: usize = 0;
-    while k < stop {
-        let i = hall::entry(list, k);
-        let g = give_one(row[i], s);
-        row[i] = g.drive;
-        answers[k] = g.number;
-        k += 1;
+    if let Err(refusal) = hall::event_refusal(row.len(), list, s, answers.len()) {
+        return refusal.number();
     }
-    refusal
+    // Kept: the answers by their place. Of a loop over a `zip` with `answers.iter_mut()` the proof did not close.
+    for (k, number) in list.iter().enumerate() {
+        answers[k] = give_one(&mut row[*number as usize], s);
+    }
+    0
 }

@@ -1,21 +1,23 @@
 -- The two loops of a hall tick: in the first each drive is advanced and its report held, and where it is due a key stands for it; in the
 -- second those go that the choice keeps, and their reports' numbers take the place of the keys. At the end it is the hall tick of document
 -- 02.
-use Rattle.std.specs.Prelude.{◌≡◌, Bool, true, not, ◌&&◌, List, ℕ, ◌+◌, ◌*◌, ◌<◌, ◌≤◌, eqb, get_or, set}
+use Rattle.std.specs.Prelude.{◌≡◌, Bool, true, not, ◌&&◌, List, [], map, ℕ, ◌+◌, ◌*◌, ◌<◌, ◌≤◌, eqb, get_or, set, take, drop, ◌++◌}
 use Rattle.std.proofs.Math.Path.{refl, sym, ap}
-use Rattle.std.proofs.Common.{◌∙◌, ext_get_or}
+use Rattle.std.proofs.Common.{◌∙◌, ext_get_or, length-take, length-take-le, drop_of_length-le, append-nil}
 use Rattle.std.proofs.Math.Bool.{false, and-false, and-true}
 use native.Mathlib.Omega.{arith}
 use Rattle.std.proofs.Math.Dec.{ltb}
 use Rattle.std.proofs.Math.ListN.{length}
 use borrow.Author.Tests.{lt-ltb, le-ltb, ltb-true, ltb-false, le-leb, eqb-true}
 use Rattle.numbers.specs.Numbers.{pick, next}
-use Rattle.numbers.specs.Laws.{cases, and_left, and_right}
+use Rattle.numbers.specs.Laws.{cases, and_left, and_right, passed}
 use Rattle.numbers.specs.Places.{tabulate}
 use Rattle.numbers.specs.PlaceLaws.{tab_length, tab_at, tab_by, tab_same, tab_set, count_same}
 use Rattle.order.specs.Order.{larger_first, rank}
 use Rattle.order.specs.Keys.{key_of, key_once, first_keyed}
+use Rattle.answer.specs.declared.Answer.{Answer}
 use Rattle.damper.specs.declared.Drive.{Drive}
+use Rattle.damper.specs.declared.Outcome.{Outcome}
 use Rattle.damper.specs.Record.{fresh_drive, with_wait}
 use Rattle.damper.specs.WellFormed.{well_formed}
 use Rattle.damper.specs.Tick.{advance, due, reported, status_of}
@@ -23,10 +25,10 @@ use Rattle.damper.specs.Step.{tick_with}
 use Rattle.damper.specs.Carry.{answers_in}
 use Rattle.choice.specs.Sent.{is_report_number, report_at}
 use Rattle.choice.specs.Choice.{key_if, number_in, Distinct, goes, kept, Next}
-use Rattle.hall.specs.Hall.{Call, tick, tick_refusal, call_refusal, at}
+use Rattle.hall.specs.Hall.{Call, tick, bad_row, bad_quota, tick_refusal, call_refusal, at}
 use Rattle.hall.specs.Quota.{due_now, wait_after, hall_ticked, wait_at, due_at, sends}
-use Rattle.hall.specs.Turns.{hall_tick, tick_number, turns_of, turned, row_after, answers_after, hall_step}
-use Rattle.hall.specs.Laws.{ticked_fits}
+use Rattle.hall.specs.Turns.{Turn, turn, hall_tick, tick_number, turns_of, turned, row_after, answers_after, hall_step}
+use Rattle.hall.specs.Laws.{ticked_fits, turned_length}
 use Rattle.hall.specs.TickLaws.{tick_row, tick_numbers}
 use Rattle.hall.specs.NumberLaws.{formed_number, unformed_number}
 
@@ -113,6 +115,10 @@ number_kept d i e =
 kept_report : (x : ℕ) (g : Bool) → is_report_number (pick (is_report_number x && not (is_report_number x && g)) 0 x) ≡ is_report_number x && g
 kept_report x true = cases (is_report_number x) (λ e. rw e e) (λ e. rw e e)
 kept_report x false = cases (is_report_number x) (λ e. rw e) (λ e. rw e e)
+
+-- the places of the row of numbers that stand for drives
+abbrev pub front : List Drive → List ℕ → List ℕ
+front ys ws = take (length ys) ws
 
 -- what is known of a call: it ticks `n` drives, all of the row or, refused, none
 pub record Ticks (ys : List Drive) (ws : List ℕ) (n : ℕ) : Type 0 where
@@ -346,10 +352,6 @@ module _ (ys : List Drive) (ws : List ℕ) (quota n : ℕ) where
     said_past : (i : ℕ) → n ≤ i → i < length ws → get_or (said_up_to n) i 0 ≡ get_or ws i 0
     said_past i l b = said_behind n i l b ∙ chosen_behind i l b
 
-  pub judged_call : tick_refusal (length ys) quota (length ws) ≡ call_refusal (length ys) (tick quota (length ws))
-  unfolding call_refusal
-  judged_call = refl
-
   -- A call that is carried out is a hall tick, and one that is refused changes nothing.
   module _ (m : ℕ) (judged : m ≡ tick_refusal (length ys) quota (length ws)) (stops : n ≡ pick (eqb m 0) (length ys) 0) where
     abbrev pub call : Call
@@ -400,3 +402,50 @@ module _ (ys : List Drive) (ws : List ℕ) (quota n : ℕ) where
         (λ e.
         let z : n ≡ 0 = stops ∙ rw e in
         rw e (ext_get_or 0 (said_up_to n) ws (said_length n) (λ i b. said_past ticks i (omega arith) (omega (arith, said_length n))))))
+
+-- A call on the whole row of numbers fills the places that stand for drives, and those behind keep their content.
+
+answers_front : (number : Answer → ℕ) (os : List Outcome) (ws : List ℕ) (n : ℕ) → length os ≡ n
+    → answers_in number os (take n ws) ++ drop n ws ≡ answers_in number os ws
+unfolding answers_in
+answers_front number os ws n e =
+    let none : drop n (take n ws) ≡ [] = drop_of_length-le (take n ws) (simp length-take (omega arith)) in
+    rw (e, none, append-nil (map (λ (o : Outcome). number o.answer) os))
+
+-- its turns, whatever the room
+asked : (ys : List Drive) (quota room : ℕ) → tick_refusal (length ys) quota room ≡ 0
+    → turns_of ys (tick quota room) ≡ tabulate (length ys) (λ i. turn (hall_tick (sends quota ys i)) i)
+unfolding turns_of call_refusal
+asked ys quota room e = rw e
+
+module _ (ys : List Drive) (ws : List ℕ) (quota : ℕ) (taken : 0 ≡ tick_refusal (length ys) quota (length ws)) where
+  pub front_length : length (front ys ws) ≡ length ys
+  front_length = length-take-le (length ys) ws (ticked_fits (length ys) quota (length ws) (sym taken)).1
+
+  front_taken : tick_refusal (length ys) quota (length (front ys ws)) ≡ 0
+  front_taken =
+      let r = passed (bad_row (length ys)) 14 _ (sym taken) (omega arith) in
+      let m = passed (ltb (length ws) (length ys)) 16 _ r.1 (omega arith) in
+      let q = passed (bad_quota quota) 18 _ m.1 (omega arith) in
+      rw (front_length, r.0, le-ltb (length ys) (length ys) (omega arith), q.0)
+
+  pub front_ticks : Ticks ys (front ys ws) (length ys)
+  front_ticks = ticks ys (front ys ws) quota (length ys) 0 (sym front_taken) refl
+
+  same_turns : turns_of ys (tick quota (length (front ys ws))) ≡ turns_of ys (tick quota (length ws))
+  same_turns = asked ys quota (length (front ys ws)) front_taken ∙ sym (asked ys quota (length ws) (sym taken))
+
+  pub row_done : sent_up_to ys (front ys ws) quota (length ys) (length ys) ≡ row_after hall_step ys (turns_of ys (tick quota (length ws)))
+  row_done = row_end ys (front ys ws) quota (length ys) 0 (sym front_taken) refl ∙ ap (row_after hall_step ys) same_turns
+
+  pub numbers_done : said_up_to ys (front ys ws) quota (length ys) (length ys) ++ drop (length ys) ws
+      ≡ answers_after hall_step ys (tick quota (length ws)) ws
+  unfolding answers_after
+  numbers_done =
+      let os = turned hall_step ys (turns_of ys (tick quota (length ws))) in
+      let many : length os ≡ length ys =
+      turned_length hall_step ys _ ∙ ap length (asked ys quota (length ws) (sym taken)) ∙ tab_length (length ys) (λ i. turn (hall_tick (sends quota ys i)) i) in
+      ap (λ (us : List ℕ). us ++ drop (length ys) ws)
+      (numbers_end ys (front ys ws) quota (length ys) 0 (sym front_taken) refl
+      ∙ ap (λ (ts : List Turn). answers_in tick_number (turned hall_step ys ts) (front ys ws)) same_turns)
+      ∙ answers_front tick_number os ws (length ys) many

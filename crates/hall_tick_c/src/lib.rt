@@ -1,4 +1,5 @@
 // The function of `hall_tick` as an archive that a host in C or Rust links.
+// Kept: its contract a second time, and a number for the refusal, since the C interface has this function.
 #![tactic(auto)]
 
 ghost use Rattle.std.specs.Prelude.{◌≡◌, length};
@@ -13,5 +14,5 @@ pub extern "C" fn damper_hall_tick_layout3(row: &mut [Drive], quota: u32, number
         × (row.new ≡ row_after hall_step row.old (turns_of row.old (tick quota (length numbers.old))))
         × (numbers.new ≡ answers_after hall_step row.old (tick quota (length numbers.old)) numbers.old) }
 {
-    hall_tick::damper_hall_tick_layout3(row, quota, numbers)
+    answer::refused_by(hall_tick::damper_hall_tick_layout3(row, quota, numbers))
 }

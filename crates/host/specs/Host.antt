@@ -1,5 +1,5 @@
 -- Outcomes and decoded events as structs of numbers, since an exported struct holds no enum.
-use Rattle.event.specs.declared.Decoded.TheVariants.{Accepted, Refused}
+use Rattle.event.specs.Event.{Decoded, Accepted, Refused}
 use Rattle.damper.specs.declared.Outcome.{Outcome}
 use Rattle.answer.specs.Answer.{word_of, code_of}
 use Rattle.host.specs.declared.Stepped.{Stepped}
@@ -10,6 +10,6 @@ abbrev pub stepped : Outcome → Stepped
 stepped o = record { drive = o.drive; word = word_of o.answer; code = code_of o.answer }
 
 -- the refusal, or 0 and the event
-abbrev pub found : Rattle.event.specs.declared.Decoded.Decoded → Found
+abbrev pub found : Decoded → Found
 found (Accepted e) = record { refusal = 0; kind = e.kind; a = e.a; b = e.b; c = e.c }
 found (Refused n) = record { refusal = n; kind = 0; a = 0; b = 0; c = 0 }

@@ -1,4 +1,5 @@
 // The functions of `host` as an archive that a host in C or Rust links.
+// Kept: each function and its contract a second time, and a number for the writer's refusal, since the C interface has these functions.
 #![tactic(auto)]
 
 ghost use Rattle.std.specs.Prelude.{◌≡◌};
@@ -44,5 +45,5 @@ pub extern "C" fn damper_write_layout3(buf: &mut [u8], kind: u8, a: u8, b: u8, c
     ensures answer { result ≡ write_refusal buf.old (event kind a b c) }
     ensures bytes { buf.new ≡ written_to buf.old (event kind a b c) }
 {
-    host::damper_write_layout3(buf, kind, a, b, c)
+    answer::refused_by(host::damper_write_layout3(buf, kind, a, b, c))
 }

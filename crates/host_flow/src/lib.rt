@@ -6,9 +6,11 @@ ghost use Rattle.std.specs.Prelude.{◌≡◌};
 ghost use Rattle.flow.specs.Flow.{fresh_record, well_formed, hear_of, heard};
 ghost use Rattle.host_flow.specs.Host.{reading_of};
 
-use flow::{FlowHeard, FlowRecord, Reading};
+use flow::{FlowHeard, FlowRecord, FlowRefusal, Reading};
 
 // Kind 0 is a flow, 1 a share, 2 broken, whose value is not looked at. Any other is read as -1 m³/h, which 23 refuses.
+// Kept: a function, since the C interface has a kind and a float, and the definition `reading_of` makes a reading of every kind.
+#[tactic(auto, using(flow::specs::Literals::is_1))]
 fn reading_of(kind: u32, value: f32) -> Reading
     ensures { result ≡ reading_of kind value }
 {
@@ -32,11 +34,13 @@ pub fn damper_flow_well_formed_layout3(flow: FlowRecord) -> bool
     flow.well_formed()
 }
 
+#[tactic(auto, using(flow::specs::Laws::record_refused))]
 pub fn damper_flow_hear_layout3(flow: FlowRecord, kind: u32, value: f32) -> FlowHeard
     ensures { result ≡ heard (hear_of flow (reading_of kind value)) }
 {
-    if flow.well_formed() {
-        return flow.hear(reading_of(kind, value));
-    }
-    flow.unsent(22)
+    let Some(mut taken) = flow.checked() else {
+        return FlowHeard::of(flow, Err(FlowRefusal::Record));
+    };
+    let answer = taken.hear(reading_of(kind, value));
+    FlowHeard::of(taken.state, answer)
 }

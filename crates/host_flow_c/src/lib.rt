@@ -1,4 +1,5 @@
 // The functions of `host_flow` as an archive that a host in C or Rust links.
+// Kept: each function and its contract a second time, since the C interface needs an archive, and no crate can use one.
 #![tactic(auto)]
 
 ghost use Rattle.std.specs.Prelude.{◌≡◌};

@@ -1,4 +1,5 @@
 // The replay for a host in C or Rust. An archive of its own, in which the step has one call site.
+// Kept: contracts a second time, since the C interface needs an archive, and no crate can use one.
 #![tactic(auto)]
 
 ghost use Rattle.std.specs.Prelude.{◌≡◌, length};

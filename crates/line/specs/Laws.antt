@@ -7,39 +7,9 @@ use Rattle.numbers.specs.Laws.{cases}
 use Rattle.answer.specs.declared.Answer.TheVariants.{No, Done, Par, At, Tick, Report}
 use Rattle.line.specs.Line as L
 
-spaced_append : (vs ws : List ℕ) → L.spaced_values (vs ++ ws) ≡ L.spaced_values vs ++ L.spaced_values ws
+pub spaced_append : (vs ws : List ℕ) → L.spaced_values (vs ++ ws) ≡ L.spaced_values vs ++ L.spaced_values ws
 spaced_append [] ws = refl
 spaced_append (v ∷ vs) ws = rw (spaced_append vs ws, append_assoc (L.decimal v))
-
--- an answer's text in the parts that are written
-pub text_no : (n : ℕ) → L.text_of (No n) ≡ (32 ∷ 110 ∷ 111 ∷ []) ++ (32 ∷ L.decimal n)
-unfolding L.text_of
-text_no n = simp append-nil
-
-pub text_done : L.text_of Done ≡ 32 ∷ 111 ∷ 107 ∷ []
-unfolding L.text_of
-text_done = refl
-
-pub text_par : (v : ℕ) → L.text_of (Par v) ≡ (32 ∷ 112 ∷ 97 ∷ 114 ∷ []) ++ (32 ∷ L.decimal v)
-unfolding L.text_of
-text_par v = simp append-nil
-
-pub text_at : (p c s : ℕ) → L.text_of (At p c s) ≡ (32 ∷ 97 ∷ 116 ∷ []) ++ L.spaced_values (p ∷ c ∷ s ∷ [])
-unfolding L.text_of
-text_at p c s = ap (λ (t : List ℕ). (32 ∷ 97 ∷ 116 ∷ []) ++ t) (append-nil (L.spaced_values (p ∷ c ∷ s ∷ [])))
-
-pub text_tick : (p r m : ℕ) → L.text_of (Tick p r m) ≡ (32 ∷ 116 ∷ 105 ∷ 99 ∷ 107 ∷ []) ++ (L.spaced_values (p ∷ r ∷ m ∷ []) ++ (32 ∷ 45 ∷ []))
-unfolding L.text_of
-text_tick p r m = refl
-
-pub text_report : (p r m s : ℕ)
-    → L.text_of (Report p r m s) ≡ (32 ∷ 116 ∷ 105 ∷ 99 ∷ 107 ∷ []) ++ (L.spaced_values (p ∷ r ∷ m ∷ []) ++ (32 ∷ L.decimal s))
-unfolding L.text_of
-text_report p r m s =
-    ap (λ (t : List ℕ). (32 ∷ 116 ∷ 105 ∷ 99 ∷ 107 ∷ []) ++ t)
-    (append-nil (L.spaced_values (p ∷ r ∷ m ∷ s ∷ []))
-    ∙ spaced_append (p ∷ r ∷ m ∷ []) (s ∷ [])
-    ∙ ap (λ (t : List ℕ). L.spaced_values (p ∷ r ∷ m ∷ []) ++ (32 ∷ t)) (append-nil (L.decimal s)))
 
 -- a bound above the number gives its digits whole, so any two such bounds give the same
 within_step : (k j n : ℕ) → (10 ≤ n → L.digits_within k (n / 10) ≡ L.digits_within j (n / 10)) → L.digits_within (suc k) n ≡ L.digits_within (suc j) n
@@ -87,13 +57,19 @@ decimal_length (suc (suc k)) n h l =
     let m : n < 10 * 10 ^ suc k = rw (pow-succ' 10 (suc k)) at h in
     length_step (suc k) n (λ g. decimal_length (suc k) (n / 10) (omega arith) (omega arith))
 
+-- a byte has at most three digits, a value of 16 bits at most five, a count of 64 bits at most twenty
+pub byte_digits : (v : ℕ) → v < 256 → length (L.decimal v) ≤ 3
+byte_digits v h = decimal_length 3 v (omega arith) (omega arith)
+
+pub value_digits : (v : ℕ) → v < 65536 → length (L.decimal v) ≤ 5
+value_digits v h = decimal_length 5 v (omega arith) (omega arith)
+
+pub count_digits : (n : ℕ) → n < 18446744073709551616 → length (L.decimal n) ≤ 20
+count_digits n h = decimal_length 20 n (omega arith) (omega arith)
+
 -- a store is a write of one byte
 pub write_byte : (d : List ℕ) (at b : ℕ) → at < length d → set d at b ≡ L.write_at d at (b ∷ [])
 write_byte d at b h = rw (set_split d at b, append_assoc, add-one)
-
--- nothing written
-pub write_none : (d : List ℕ) (at : ℕ) → L.Written d d at at []
-write_none d at = record { place = omega arith; buffer = sym (rw (append-nil (take at d), add-zero at) (take-append-drop at d)) }
 
 -- one write after another is a write of both
 pub write_write : (d : List ℕ) (at : ℕ) (xs ys : List ℕ) → at + length xs ≤ length d

@@ -2,3 +2,4 @@
 pub mod Text
 pub mod Line
 pub mod Laws
+pub mod Writing

@@ -2,3 +2,4 @@
 pub mod Order
 pub mod Laws
 pub mod Keys
+pub mod Search

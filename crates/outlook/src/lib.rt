@@ -4,9 +4,11 @@
 ghost use Rattle.std.specs.Prelude.{◌≡◌};
 ghost use Rattle.outlook.specs.Outlook.{outlook_of};
 
+use answer::Refusal;
 use damper::Drive;
 
 // Of a tick that finds the drive as it is. A report goes out where `waited` and one of the four behind it hold.
+// Kept: no Result, and zeros where it is refused, since the C interface has this struct.
 #[repr(C)]
 #[derive(Clone, Copy)]
 pub struct Outlook {
@@ -31,7 +33,7 @@ pub struct Outlook {
 }
 
 const NONE: Outlook = Outlook {
-    refusal: 1,
+    refusal: Refusal::Record as u8,
     rank: 0,
     target: 0,
     position: 0,
@@ -43,26 +45,26 @@ const NONE: Outlook = Outlook {
     period: false,
 };
 
+#[tactic(auto, unfolding(crate::specs::Outlook::outlook_of, damper::specs::Tick::aged))]
 pub fn ahead(d: Drive) -> Outlook
     ensures { result ≡ outlook_of d }
 {
-    if !d.well_formed() {
+    let Some(formed) = d.formed() else {
         return NONE;
-    }
-    let a = d.aged();
-    let rank = a.ruling();
-    let m = d.advance();
-    let n = m.drive;
+    };
+    let aged = d.aged();
+    let rank = aged.ruling();
+    let n = formed.advance().drive;
     let params = n.params;
     let status = n.status();
     let reported = n.last.reported == 1;
     let changed = rules::changed(params[table::ACT_POS_COV], n.position, n.last.position);
     Outlook {
         refusal: 0,
-        rank: rank,
-        target: a.target(rank),
+        rank: rank.number,
+        target: aged.target(rank),
         position: n.position,
-        status: status,
+        status,
         waited: params[table::MIN_REP_TIME] <= n.since,
         first: !reported,
         changed: reported & changed,

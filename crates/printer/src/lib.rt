@@ -1,7 +1,7 @@
 // The printed lines of a row of event records.
 #![tactic(auto)]
 
-ghost use Rattle.std.specs.Prelude.{◌≡◌, ◌++◌, ◌+◌, ◌*◌, ◌/◌, ◌%◌, ◌<◌, ◌≤◌, length, take, drop};
+ghost use Rattle.std.specs.Prelude.{◌≡◌, ◌++◌, ◌+◌, ◌*◌, ◌/◌, ◌%◌, ◌<◌, ◌≤◌, length, drop};
 ghost use Rattle.numbers.specs.Numbers.{pick};
 ghost use Rattle.damper.specs.Step.{step_of};
 ghost use Rattle.damper.specs.Carry.{outcomes, drive_after};
@@ -11,6 +11,7 @@ ghost use Rattle.printer.specs.Page.{counted, count_after, lines_after, page_aft
 use damper::Drive;
 
 // The drive after the records that were answered, how many it was given by then, and how many bytes their lines have.
+// Kept: lengths, here and below, of what is used of a lent buffer: a slice of it would lend it on.
 #[derive(Clone, Copy)]
 pub struct Printed {
     pub drive: Drive,
@@ -18,18 +19,10 @@ pub struct Printed {
     pub used: usize,
 }
 
-fn one_more(count: u64) -> u64
-    ensures { result ≡ counted count }
-{
-    if count < 0xffff_ffff_ffff_ffff {
-        count + 1
-    } else {
-        count
-    }
-}
-
 // Gives the records of s, six bytes each and a shorter rest, to a drive that was given `given` of them before, and writes a line
 // for each: as many as the buffer has room for. Bytes after the last line keep their content.
+// Kept: a loop of its own, beside replay's. One for both would need a trait for what takes an answer, with a relation that both loops
+// prove: more than the two loops are.
 pub fn print_answers(mut d: Drive, given: u64, s: &[u8], out: &mut [u8]) -> Printed
     ensures drive { result.drive ≡ drive_after d (outcomes step_of d (answered s.now out.old)) }
     ensures count { result.count ≡ count_after given (outcomes step_of d (answered s.now out.old)) }
@@ -37,43 +30,19 @@ pub fn print_answers(mut d: Drive, given: u64, s: &[u8], out: &mut [u8]) -> Prin
     ensures bytes { out.new ≡ page_after given (outcomes step_of d (answered s.now out.old)) out.old }
     ensures within { result.used ≤ length out.new }
 {
-    let room = out.len() / line::ROOM;
-    let mut count = given;
-    let mut used: usize = 0;
     let formed = d.well_formed();
-    let mut i: usize = 0;
-    let mut at: usize = 0;
-    while i < room {
-        let left = s.len() - at;
-        if left == 0 {
-            break;
-        }
-        let end = at + numbers::min_size(left, event::LENGTH);
-        let o = d.step_if(formed, &s[at..end]);
-        let next = o.drive;
-        let answer = o.answer;
-        count = one_more(count);
-        used = line::put_line(out, used, count, answer);
-        d = next;
-        i += 1;
-        at = end;
+    let mut count = given;
+    let mut used = 0;
+    for record in s.chunks(event::LENGTH).take(out.len() / line::ROOM) {
+        let o = d.step_if(formed, record);
+        count = count.saturating_add(1);
+        used = line::put_line(out, used, count, o.answer);
+        d = o.drive;
     }
     Printed {
         drive: d,
-        count: count,
-        used: used,
-    }
-}
-
-// Moves what follows the place `from` to the front: the bytes of a record that has not come whole.
-fn keep_rest(input: &mut [u8], from: usize, kept: usize)
-    requires { from + kept ≤ length input.old }
-    ensures { input.new ≡ take kept (drop from input.old) ++ drop kept input.old }
-{
-    let mut i: usize = 0;
-    while i < kept {
-        input[i] = input[from + i];
-        i += 1;
+        count,
+        used,
     }
 }
 
@@ -101,30 +70,28 @@ pub struct Turned {
     pub used: usize,
 }
 
-// One piece of the input: `have` bytes stand at the front of it, those kept from before and those that came. Every record that is
-// whole is answered, and a shorter rest where the input has ended; what waits for more bytes is moved to the front. Asked for: room
-// for 64 bytes of output for every six of input.
-pub fn turn(s: Session, input: &mut [u8], have: usize, ended: bool, out: &mut [u8]) -> Turned
-    requires have_in_bounds { have ≤ length input.old }
-    requires have_bound { have ≤ 6 * (length out.old / 64) }
-    ensures drive { result.next.drive ≡ drive_after s.drive (given ended s.drive (take have input.old)) }
-    ensures count { result.next.count ≡ count_after s.count (given ended s.drive (take have input.old)) }
-    ensures kept { result.next.kept ≡ length (kept ended (take have input.old)) }
+// One piece of the input: the bytes kept from before, and those that came. Every record that is whole is answered, and a shorter
+// rest where the input has ended; what waits for more bytes is moved to the front. Asked for: room for 64 bytes of output for every
+// six of input.
+pub fn turn(s: Session, input: &mut [u8], ended: bool, out: &mut [u8]) -> Turned
+    requires room { length input.old ≤ 6 * (length out.old / 64) }
+    ensures drive { result.next.drive ≡ drive_after s.drive (given ended s.drive input.old) }
+    ensures count { result.next.count ≡ count_after s.count (given ended s.drive input.old) }
+    ensures kept { result.next.kept ≡ length (kept ended input.old) }
     ensures few { result.next.kept < 6 }
-    ensures input { input.new ≡ kept ended (take have input.old) ++ drop result.next.kept input.old }
-    ensures used { result.used ≡ length (lines_after s.count (given ended s.drive (take have input.old))) }
-    ensures lines { out.new ≡ page_after s.count (given ended s.drive (take have input.old)) out.old }
+    ensures input { input.new ≡ kept ended input.old ++ drop result.next.kept input.old }
+    ensures used { result.used ≡ length (lines_after s.count (given ended s.drive input.old)) }
+    ensures lines { out.new ≡ page_after s.count (given ended s.drive input.old) out.old }
     ensures within { result.used ≤ length out.new }
 {
-    let before = s.drive;
-    let part = waiting(ended, have);
-    let whole = have - part;
-    let p = print_answers(before, s.count, &input[..whole], out);
-    let drive = p.drive;
-    keep_rest(input, whole, part);
+    let part = waiting(ended, input.len());
+    let whole = input.len() - part;
+    let p = print_answers(s.drive, s.count, &input[..whole], out);
+    // What waits moves to the front.
+    input.copy_within(whole.., 0);
     Turned {
         next: Session {
-            drive: drive,
+            drive: p.drive,
             count: p.count,
             kept: part,
         },

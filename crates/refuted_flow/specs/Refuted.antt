@@ -1,5 +1,5 @@
 -- The claim refuses each wrong flow box, by a closed list.
-use Rattle.std.specs.Prelude.{◌≡◌, refl, false, List, [], ◌∷◌, ℕ, ◌≤◌, pos, Float}
+use Rattle.std.specs.Prelude.{◌≡◌, refl, false, List, [], ◌∷◌, ℕ, ◌≤◌, pos, Float, Option, Some, Result, Ok}
 use Rattle.std.proofs.Common.{sym, ap, ◌∙◌, arith}
 use Rattle.std.proofs.lemmas.Bool.{false≢true}
 use Rattle.std.specs.Float.{nan, fin, binary32}
@@ -8,7 +8,7 @@ use Rattle.std.specs.Float.Ieee.Positive.{num}
 use Rattle.numbers.specs.Counts as Counts
 use Rattle.flow.specs.declared.Reading.{Reading}
 use Rattle.flow.specs.declared.Reading.TheVariants.{Flow, Share, Broken}
-use Rattle.flow.specs.declared.Measured.TheVariants.{At}
+use Rattle.flow.specs.declared.FlowRefusal.{FlowRefusal}
 use Rattle.flow.specs.Answer.{No, Silent, Report}
 use Rattle.flow.specs.Flow.{whole, percent_of, Greatest}
 use Rattle.flow.specs.PercentLaws.{greatest_unique}
@@ -168,7 +168,7 @@ shows_nearest c =
 abbrev half : Float
 half = of_bits binary32 0x3f000000
 
-same_at : (a x : Float) → At a ≡ At x → a ≡ x
+same_at : (a x : Float) → ◌≡◌ {A = Result (Option Float) FlowRefusal} (Ok (Some a)) (Ok (Some x)) → a ≡ x
 same_at a x e = cc
 
 pub shares_as_flows : Refused W.shares_as_flows 1 (Share half ∷ [])

@@ -1,5 +1,5 @@
 -- Wrong wordings of the claim: each is false of the flow box itself, at the last call of a list.
-use Rattle.std.specs.Prelude.{◌≡◌, refl, Bool, true, false, ◌&&◌, List, [], ◌∷◌, ◌++◌, ℕ, ◌+◌, ◌≤◌, leb, Float}
+use Rattle.std.specs.Prelude.{◌≡◌, refl, Bool, true, false, ◌&&◌, List, [], ◌∷◌, ◌++◌, ℕ, ◌+◌, ◌≤◌, leb, Float, Option, Some, None, Result, Ok, Err}
 use Rattle.std.proofs.Common.{sym, arith}
 use Rattle.std.proofs.lemmas.Bool.{false≢true}
 use Rattle.std.specs.Float.{nan}
@@ -7,8 +7,7 @@ use Rattle.std.specs.Float.Ieee.{le, lt}
 use Rattle.numbers.specs.Counts as Counts
 use Rattle.flow.specs.declared.Reading.{Reading}
 use Rattle.flow.specs.declared.Reading.TheVariants.{Flow, Broken}
-use Rattle.flow.specs.declared.Measured.{Measured}
-use Rattle.flow.specs.declared.Measured.TheVariants.{At, Nothing, Refused}
+use Rattle.flow.specs.declared.FlowRefusal.{FlowRefusal}
 use Rattle.flow.specs.Flow.{whole, apart, hear_of}
 use Rattle.flow.specs.Closed.{computation}
 use Rattle.flow_history.specs.Claim as C
@@ -39,7 +38,8 @@ further_apart_lem w = let z : 2 ≤ 1 = w [] _ [] refl refl refl in omega arith
 
 -- waiting by one tick fewer
 abbrev sooner : Sentence
-sooner s m t = (row old : Trace) (x : Float) → m ∷ t ≡ row ++ old → C.flow_in s m ≡ At x → C.ticks_in s row old + 1 ≡ s.time → C.Quiet old row
+sooner s m t = (row old : Trace) (x : Float) → m ∷ t ≡ row ++ old → C.flow_in s m ≡ Ok (Some x)
+    → C.ticks_in s row old + 1 ≡ s.time → C.Quiet old row
     → (y : Float) × (C.last_sent (m ∷ t) ≡ sent y) × (lt (apart x y) s.cov ≡ true)
 
 pub sooner_is_wrong : Wrong sooner 2 (Flow (whole 50) ∷ [])
@@ -65,7 +65,7 @@ without_reading_lem w =
 
 -- due by other ticks, or by another difference
 abbrev due_by : (Settings → Counts.Test Moment) → (Float → Float → Sent → Bool) → Sentence
-due_by tick differs s m t = (x : Float) → C.flow_in s m ≡ At x
+due_by tick differs s m t = (x : Float) → C.flow_in s m ≡ Ok (Some x)
     → C.reports m ≡ (leb s.time (Counts.since (tick s) C.reported C.never t + 1) && differs s.cov x (C.last_sent t))
 
 -- of the claim's own it is the claim's
@@ -74,10 +74,10 @@ unfolding C.due_in
 own s m t = refl
 
 -- broken is no tick
-abbrev flows_only : Measured → Bool
-flows_only (At x) = true
-flows_only Nothing = false
-flows_only Refused = false
+abbrev flows_only : Result (Option Float) FlowRefusal → Bool
+flows_only (Ok (Some x)) = true
+flows_only (Ok None) = false
+flows_only (Err refusal) = false
 
 pub broken_is_no_tick : Wrong (due_by (λ s m t. flows_only (C.flow_in s m)) C.differs) 2 (Broken ∷ Flow (whole 50) ∷ [])
 unfolding computation C.trace_on C.last_sent Counts.since

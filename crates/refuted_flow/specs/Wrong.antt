@@ -1,13 +1,13 @@
 -- Wrong flow boxes.
-use Rattle.std.specs.Prelude.{Bool, ◌&&◌, ◌||◌, ℕ, zero, suc, ◌+◌, ◌-◌, ◌*◌, leb, Float}
+use Rattle.std.specs.Prelude.{Bool, ◌&&◌, ◌||◌, ℕ, zero, suc, ◌+◌, ◌-◌, ◌*◌, leb, Float, Option, Some, None, Result, Ok, Err}
 use Rattle.std.specs.Float.{binary32}
 use Rattle.std.specs.Float.Ieee.{mul, div, le, lt}
 use Rattle.std.specs.Float.Ieee.Positive.{num, den}
 use Rattle.numbers.specs.Numbers.{pick}
 use Rattle.flow.specs.declared.Reading.{Reading}
 use Rattle.flow.specs.declared.Reading.TheVariants.{Flow, Share, Broken}
-use Rattle.flow.specs.declared.Measured.{Measured}
-use Rattle.flow.specs.declared.Measured.TheVariants.{At, Nothing, Refused}
+use Rattle.flow.specs.declared.FlowRefusal.{FlowRefusal}
+use Rattle.flow.specs.declared.FlowRefusal.TheVariants as By
 use Rattle.flow.specs.declared.FlowRecord.{FlowRecord}
 use Rattle.flow.specs.Answer.{FlowAnswer, No, Silent, Report, FlowOutcome}
 use Rattle.flow.specs.Flow.{whole, is_flow, is_share, measured, percent_of, ticked, reported, due_at, told, hears, hear_of, outcome}
@@ -27,20 +27,20 @@ unfolding mute
 never_reports r got = outcome (hear_of r got).state (mute (hear_of r got).answer)
 
 -- takes the difference from the reading before
-previous : FlowOutcome → Measured → FlowOutcome
-previous o (At x) = outcome (with_last o.state x) o.answer
-previous o Nothing = o
-previous o Refused = o
+previous : FlowOutcome → Result (Option Float) FlowRefusal → FlowOutcome
+previous o (Ok (Some x)) = outcome (with_last o.state x) o.answer
+previous o (Ok None) = o
+previous o (Err refusal) = o
 
 unfoldable pub from_previous : Step
 unfolding previous with_last
 from_previous r got = previous (hear_of r got) (measured r.nominal got)
 
 -- lets since rise after the test
-late : FlowRecord → Measured → FlowOutcome
-late r (At x) = pick (due_at r x) (outcome (reported r x) (Report x (percent_of r.nominal x))) (outcome (ticked r) Silent)
-late r Nothing = outcome (ticked r) Silent
-late r Refused = outcome r (No 23)
+late : FlowRecord → Result (Option Float) FlowRefusal → FlowOutcome
+late r (Ok (Some x)) = pick (due_at r x) (outcome (reported r x) (Report x (percent_of r.nominal x))) (outcome (ticked r) Silent)
+late r (Ok None) = outcome (ticked r) Silent
+late r (Err refusal) = outcome r (No 23)
 
 unfoldable pub rises_late : Step
 unfolding late
@@ -53,10 +53,10 @@ skips_broken r (Share x) = hear_of r (Share x)
 skips_broken r Broken = outcome r Silent
 
 -- counts what is refused
-counting : FlowRecord → Measured → FlowOutcome
-counting r (At x) = told (ticked r) x
-counting r Nothing = outcome (ticked r) Silent
-counting r Refused = outcome (ticked r) (No 23)
+counting : FlowRecord → Result (Option Float) FlowRefusal → FlowOutcome
+counting r (Ok (Some x)) = told (ticked r) x
+counting r (Ok None) = outcome (ticked r) Silent
+counting r (Err refusal) = outcome (ticked r) (No 23)
 
 unfoldable pub counts_refused : Step
 unfolding counting
@@ -66,11 +66,11 @@ counts_refused r got = counting r (measured r.nominal got)
 outside : Float → Float → Float → Bool
 outside low high x = lt x low || lt high x
 
-loose : Float → Reading → Measured
+loose : Float → Reading → Result (Option Float) FlowRefusal
 unfolding outside
-loose n (Flow x) = pick (outside (whole 0) (whole 1000000) x) Refused (At x)
-loose n (Share x) = pick (outside (whole 0) (whole 1) x) Refused (At (mul binary32 n x))
-loose n Broken = Nothing
+loose n (Flow x) = pick (outside (whole 0) (whole 1000000) x) (Err By.Reading) (Ok (Some x))
+loose n (Share x) = pick (outside (whole 0) (whole 1) x) (Err By.Reading) (Ok (Some (mul binary32 n x)))
+loose n Broken = Ok None
 
 unfoldable pub takes_nan : Step
 unfolding loose
@@ -87,11 +87,11 @@ takes_nan_settings r got =
 inside : Float → Float → Float → Bool
 inside low high x = lt low x && lt x high
 
-narrow : Float → Reading → Measured
+narrow : Float → Reading → Result (Option Float) FlowRefusal
 unfolding inside
-narrow n (Flow x) = pick (inside (whole 0) (whole 1000000) x) (At x) Refused
-narrow n (Share x) = pick (inside (whole 0) (whole 1) x) (At (mul binary32 n x)) Refused
-narrow n Broken = Nothing
+narrow n (Flow x) = pick (inside (whole 0) (whole 1000000) x) (Ok (Some x)) (Err By.Reading)
+narrow n (Share x) = pick (inside (whole 0) (whole 1) x) (Ok (Some (mul binary32 n x))) (Err By.Reading)
+narrow n Broken = Ok None
 
 unfoldable pub ends_out : Step
 unfolding narrow
@@ -179,20 +179,20 @@ shows_nearest r got = outcome (hear_of r got).state (nearer (hear_of r got).answ
         Report x (pick (leb ((2 * p + 1) * num r.nominal * den x) top) (p + 1) p)
 
 -- takes a share for a flow
-raw : Reading → Measured
-raw (Flow x) = pick (is_flow x) (At x) Refused
-raw (Share x) = pick (is_share x) (At x) Refused
-raw Broken = Nothing
+raw : Reading → Result (Option Float) FlowRefusal
+raw (Flow x) = pick (is_flow x) (Ok (Some x)) (Err By.Reading)
+raw (Share x) = pick (is_share x) (Ok (Some x)) (Err By.Reading)
+raw Broken = Ok None
 
 unfoldable pub shares_as_flows : Step
 unfolding raw
 shares_as_flows r got = hears r (raw got)
 
 -- judges the reading before the record
-late22 : FlowRecord → Measured → FlowOutcome
-late22 r Refused = outcome r (No 23)
-late22 r Nothing = hear_of r Broken
-late22 r (At x) = hear_of r (Flow x)
+late22 : FlowRecord → Result (Option Float) FlowRefusal → FlowOutcome
+late22 r (Err refusal) = outcome r (No 23)
+late22 r (Ok None) = hear_of r Broken
+late22 r (Ok (Some x)) = hear_of r (Flow x)
 
 unfoldable pub reading_first : Step
 unfolding late22
@@ -213,15 +213,15 @@ exactly r x =
     let b = num r.last * den x in
     leb (num r.cov * (den x * den r.last)) (((a - b) + (b - a)) * den r.cov)
 
-unrounded : FlowRecord → Measured → FlowOutcome
+unrounded : FlowRecord → Result (Option Float) FlowRefusal → FlowOutcome
 unfolding exactly
-unrounded r (At x) =
+unrounded r (Ok (Some x)) =
     let t = ticked r in
     pick (leb t.time t.since && (leb t.sent 0 || exactly t x))
     (outcome (reported t x) (Report x (percent_of t.nominal x)))
     (outcome t Silent)
-unrounded r Nothing = outcome (ticked r) Silent
-unrounded r Refused = outcome r (No 23)
+unrounded r (Ok None) = outcome (ticked r) Silent
+unrounded r (Err refusal) = outcome r (No 23)
 
 unfoldable pub differs_exactly : Step
 unfolding unrounded

@@ -1,2 +1,3 @@
 -- A drive carried over a row of event records.
+pub mod Laws
 pub mod Replay

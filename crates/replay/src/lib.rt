@@ -19,30 +19,23 @@ pub struct Replayed {
 
 // Gives the records of s, six bytes each and a shorter rest, to the drive one after the other, as many as both rows have room
 // for, and writes each answer's word and its values to the rows. Further places of the rows keep their content.
+// Kept: two rows, since the C interface has them, and their places by number, as in hall_event.
 pub fn replay(mut d: Drive, s: &[u8], words: &mut [u8], codes: &mut [u32]) -> Replayed
     ensures drive { result.drive ≡ drive_after d (outcomes step_of d (carried s.now words.old codes.old)) }
     ensures count { result.count ≡ length (carried s.now words.old codes.old) }
     ensures words { words.new ≡ answers_in word_of (outcomes step_of d (carried s.now words.old codes.old)) words.old }
     ensures codes { codes.new ≡ answers_in code_of (outcomes step_of d (carried s.now words.old codes.old)) codes.old }
 {
-    let room = numbers::min_size(words.len(), codes.len());
+    let room = words.len().min(codes.len());
     let formed = d.well_formed();
-    let mut i: usize = 0;
-    let mut at: usize = 0;
-    while i < room {
-        let left = s.len() - at;
-        if left == 0 {
-            break;
-        }
-        let end = at + numbers::min_size(left, event::LENGTH);
-        let o = d.step_if(formed, &s[at..end]);
-        let next = o.drive;
-        let a = o.answer;
-        words[i] = a.word();
-        codes[i] = a.code();
-        d = next;
-        i += 1;
-        at = end;
+    for (k, record) in s.chunks(event::LENGTH).take(room).enumerate() {
+        let o = d.step_if(formed, record);
+        words[k] = o.answer.word();
+        codes[k] = o.answer.code();
+        d = o.drive;
     }
-    Replayed { drive: d, count: i }
+    Replayed {
+        drive: d,
+        count: s.len().div_ceil(event::LENGTH).min(room),
+    }
 }

@@ -2,16 +2,19 @@
 #![tactic(auto)]
 
 ghost use Rattle.std.specs.Prelude.{◌≡◌, ◌≤◌};
-ghost use Rattle.table.specs.Laws.{Ranges};
+ghost use Rattle.answer.specs.Refusal.{refused_by};
 ghost use Rattle.rules.specs.Commands.{flagged, commands_fit};
 ghost use Rattle.rules.specs.Rank.{start_run, forced, forbids, bus_active, ruling_rank, limited, backup_target};
 ghost use Rattle.rules.specs.Report.{status, changed};
 ghost use Rattle.rules.specs.Refusal.{state_refusal};
 
-use event::Event;
-use numbers::{bit, pick8};
+use answer::{Refusal, refuse};
+use event::{Event, Kind};
+use numbers::{bit, pick};
+use table::Params;
 
 // What the latest commands say. A flag is a byte, set at 1, so that any bytes are commands; those that fit have flags of 0 and 1.
+// Kept: no Option, no bool and no enum, since the C interface has this struct, and any bytes are one.
 #[repr(C)]
 #[derive(Clone, Copy)]
 pub struct Commands {
@@ -28,6 +31,7 @@ pub struct Commands {
     pub setpoint: u8,
 }
 
+// Kept: a constant written out, since the value of a constant can not be a call of default().
 pub const NO_COMMANDS: Commands = Commands {
     fault: 0,
     forcing: 0,
@@ -40,6 +44,7 @@ pub const NO_COMMANDS: Commands = Commands {
 };
 
 // A run as a number.
+// Kept: no enum, since the C interface has the number in the record, and any byte is one.
 pub const NO_RUN: u8 = 0;
 
 pub const CALIBRATION: u8 = 1;
@@ -50,6 +55,7 @@ pub const SYNC_OPEN: u8 = 3;
 
 impl Commands {
     // Whether each flag is 0 or 1, forcing 0 to 3, and the value of a flag that is off 0, with the age of the setpoint.
+    #[tactic(auto, unfolding(crate::specs::Commands::commands_fit))]
     pub fn fit(self, age: u16) -> bool
         ensures { result ≡ commands_fit self age }
     {
@@ -80,6 +86,7 @@ fn flagged(flag: u8, value: u8) -> bool
 }
 
 // The highest set bit: 7 less the leading zeros of an active byte, which is not 0 since backup is always active.
+#[tactic(auto, unfolding(crate::specs::Rank::ruling_rank))]
 pub fn ruling_rank(active: u8) -> u8
     requires { 1 ≤ active }
     ensures { result ≡ ruling_rank active }
@@ -88,23 +95,20 @@ pub fn ruling_rank(active: u8) -> u8
 }
 
 // v brought into the Low to High of the parameters.
-pub fn limited(params: [u16; table::COUNT], v: u8) -> u8
-    requires { Ranges params }
-    ensures { result ≡ limited params v }
+pub fn limited(params: Params, v: u8) -> u8
+    ensures { result ≡ limited params.values v }
 {
-    motion::within(params[table::LOW] as u8, params[table::HIGH] as u8, v)
+    motion::within(params.low(), params.high(), v)
 }
 
 // Where backup leads: the commands, the present position and the parameters tell.
-pub fn backup_target(c: Commands, position: u8, params: [u16; table::COUNT]) -> u8
-    requires { Ranges params }
-    ensures { result ≡ backup_target c position params }
+#[tactic(auto, unfolding(crate::specs::Rank::backup_target))]
+pub fn backup_target(c: Commands, position: u8, params: Params) -> u8
+    ensures { result ≡ backup_target c position params.values }
 {
-    if params[table::BACKUP_MODE] == 0 {
-        return limited(
-            params,
-            motion::to_position(params[table::BACKUP_VALUE] as u8),
-        );
+    let values = params.values;
+    if values[table::BACKUP_MODE] == 0 {
+        return limited(params, motion::to_position(params.backup_value()));
     }
     if c.stored == 1 {
         return limited(params, c.setpoint);
@@ -116,10 +120,10 @@ pub fn backup_target(c: Commands, position: u8, params: [u16; table::COUNT]) -> 
 pub fn start_run(synchronization: u16) -> u8
     ensures { result ≡ start_run synchronization }
 {
-    pick8(
+    pick(
         synchronization == 1,
         SYNC_CLOSE,
-        pick8(synchronization == 2, SYNC_OPEN, NO_RUN),
+        pick(synchronization == 2, SYNC_OPEN, NO_RUN),
     )
 }
 
@@ -143,6 +147,7 @@ pub fn bus_active(c: Commands, age: u16, timeout: u16) -> bool
 }
 
 // Bit 0 fault, 1 hand or tool, 2 calibration, 3 synchronization, 4 forced, 5 bus not active.
+#[tactic(auto, unfolding(crate::specs::Report::status))]
 pub fn status(c: Commands, run: u8, bus: bool) -> u8
     ensures { result ≡ status c run bus }
 {
@@ -161,28 +166,29 @@ pub fn changed(cov: u16, position: u8, last: u8) -> bool
     255 * (cov as u32) <= 100 * (numbers::distance(position, last) as u32)
 }
 
-// The first of the refusals 9 to 13 that fits, or 0.
-pub fn state_refusal(e: Event, mode: u16, low: u16, high: u16, running: bool, forbidden: bool) -> u8
-    ensures { result ≡ state_refusal e mode low high running forbidden }
+// The first of the refusals 9 to 13 that fits.
+#[tactic(auto, unfolding(crate::specs::Refusal::state_refusal))]
+pub fn state_refusal(
+    e: Event,
+    mode: u16,
+    low: u16,
+    high: u16,
+    running: bool,
+    forbidden: bool,
+) -> Result<(), Refusal>
+    ensures { refused_by result ≡ state_refusal e mode low high running forbidden }
 {
-    let kind = e.kind;
-    match kind {
-        event::LTE_SETPOINT => pick8((e.a as u32) != 50 + mode as u32, 9, 0),
-        event::CALIBRATION => pick8(forbidden, 13, 0),
-        event::WRITE => {
+    match Kind::try_from(e.kind) {
+        Ok(Kind::LteSetpoint) => refuse((e.a as u32) != 50 + mode as u32, Refusal::Property),
+        Ok(Kind::Calibration) => refuse(forbidden, Refusal::Blocked),
+        Ok(Kind::Write) => {
             let v = event::value_of(e);
             let crossed = ((e.a == table::LOW_NUMBER) & (high < v))
                 | ((e.a == table::HIGH_NUMBER) & (v < low));
-            pick8(
-                !table::takes(e.a, v),
-                10,
-                pick8(
-                    crossed,
-                    11,
-                    pick8((e.a == table::RATE_NUMBER) & running, 12, 0),
-                ),
-            )
+            refuse(!table::takes(e.a, v), Refusal::Range)?;
+            refuse(crossed, Refusal::LowAboveHigh)?;
+            refuse((e.a == table::RATE_NUMBER) & running, Refusal::RateInRun)
         }
-        _ => 0,
+        _ => Ok(()),
     }
 }

@@ -1,22 +1,22 @@
 -- Proofs: the flow record, one call, and what a host hands over and is handed.
-use Rattle.std.specs.Prelude.{◌≡◌, refl, ◌↔◌, Bool, true, false, not, ℕ, ◌≤◌, leb, pos, Float}
+use Rattle.std.specs.Prelude.{◌≡◌, refl, ◌↔◌, Bool, true, false, not, ℕ, ◌≤◌, leb, pos, Float, Some, Ok, Err}
 use Rattle.std.proofs.Common.{sym, ap, ◌∙◌, subst, add-one, arith, leb-true, leb-false, le-leb, ne_eqb}
 use Rattle.std.proofs.lemmas.Bool.{false≢true, eqb-false}
 use Rattle.std.proofs.Math.Bool.{or-true}
-use Rattle.std.specs.Float.{fin}
-use Rattle.std.specs.Float.Ieee.{le, neg}
+use Rattle.std.specs.Float.{fin, binary32}
+use Rattle.std.specs.Float.Ieee.{mul, le, neg}
 use Rattle.numbers.specs.Numbers.{on, is_flag, next}
 use Rattle.numbers.specs.Laws.{cases, and_left, and_right, and_intro}
 use Rattle.numbers.specs.Says.{Says, unset}
 use Rattle.flow.specs.declared.Reading.{Reading}
 use Rattle.flow.specs.declared.Reading.TheVariants.{Flow, Share, Broken}
-use Rattle.flow.specs.declared.Measured.TheVariants.{At, Nothing, Refused}
+use Rattle.flow.specs.declared.FlowRefusal.TheVariants as By
 use Rattle.flow.specs.declared.FlowRecord.{FlowRecord}
 use Rattle.flow.specs.Answer.{FlowAnswer, No, Silent, Report, FlowOutcome}
 use Rattle.flow.specs.Flow.{whole, is_setting, is_flow, is_share, measured, percent_of, apart, fresh_record, settings_fit, well_formed}
 use Rattle.flow.specs.Flow.{ticked, due_by, due_at, told, hear_of, outcome, heard_with, heard}
 use Rattle.flow.specs.FloatLaws.{zero_is}
-use Rattle.flow.specs.Laws.{settings, parts, nominal_set, measured_flow, at_eq, refused_at, nothing_at, hear_kept}
+use Rattle.flow.specs.Laws.{settings, parts, nominal_set, measured_flow, hear_kept}
 use Rattle.flow.specs.Laws.{reading_refused, record_refused}
 use Rattle.flow.specs.declared.FlowHeard.{FlowHeard}
 use Rattle.host_flow.specs.Host.{reading_of}
@@ -88,22 +88,16 @@ refused_22 r got b = record_refused r got ((same_22 r).1 b)
 
 -- ── 23 ──
 
-at_refused : {x : Float} → At x ≡ Refused → ⊥
-at_refused p = refused_at (sym p)
-
-nothing_refused : Nothing ≡ Refused → ⊥
-nothing_refused p = let z : ◌≡◌ {A = ℕ} 0 1 = cc in omega arith
-
-pub same_23 : (n : Float) (got : Reading) → (measured n got ≡ Refused) ↔ S.By23 got
+pub same_23 : (n : Float) (got : Reading) → (measured n got ≡ Err By.Reading) ↔ S.By23 got
 same_23 n got = (refuses got, refused)
   where
-    refuses : (got : Reading) → measured n got ≡ Refused → S.By23 got
-    refuses (Flow x) e = cases (is_flow x) (λ q. absurd (at_refused (rw q at e))) (λ q. S.flow_out x (out_of (is_flow x) (same_flow x) q))
+    refuses : (got : Reading) → measured n got ≡ Err By.Reading → S.By23 got
+    refuses (Flow x) e = cases (is_flow x) (λ q. let e· = rw q at e in cc) (λ q. S.flow_out x (out_of (is_flow x) (same_flow x) q))
     refuses (Share x) e =
-        cases (is_share x) (λ q. absurd (at_refused (rw q at e))) (λ q. S.share_out x (out_of (is_share x) (same_share x) q))
-    refuses Broken e = absurd (nothing_refused e)
+        cases (is_share x) (λ q. let e· = rw q at e in cc) (λ q. S.share_out x (out_of (is_share x) (same_share x) q))
+    refuses Broken e = cc
 
-    refused : {got : Reading} → S.By23 got → measured n got ≡ Refused
+    refused : {got : Reading} → S.By23 got → measured n got ≡ Err By.Reading
     refused (S.flow_out x h) = rw ((unset (is_flow x) (same_flow x)).1 h)
     refused (S.share_out x h) = rw ((unset (is_share x) (same_share x)).1 h)
 
@@ -118,27 +112,29 @@ share_in : (x : Float) → (S.By23 (Share x) → ⊥) → is_share x ≡ true
 share_in x n = cases (is_share x) (λ q. q) (λ q. absurd (n (S.share_out x (out_of (is_share x) (same_share x) q))))
 
 pub same_measured : (n : Float) (got : Reading) (x : Float) → S.Between 1 1000000 n
-    → (measured n got ≡ At x) ↔ ((S.By23 got → ⊥) × S.FlowOf n got x)
+    → (measured n got ≡ Ok (Some x)) ↔ ((S.By23 got → ⊥) × S.FlowOf n got x)
 same_measured n got x i = (λ e. (not_refused got e, flow_of got e), λ p. measures p.1 p.0)
   where
-    not_refused : (got : Reading) → measured n got ≡ At x → S.By23 got → ⊥
-    not_refused got e b = refused_at (sym ((same_23 n got).1 b) ∙ e)
+    not_refused : (got : Reading) → measured n got ≡ Ok (Some x) → S.By23 got → ⊥
+    not_refused got e b = let z = sym ((same_23 n got).1 b) ∙ e in cc
 
-    flow_of : (got : Reading) → measured n got ≡ At x → S.FlowOf n got x
+    flow_of : (got : Reading) → measured n got ≡ Ok (Some x) → S.FlowOf n got x
     flow_of (Flow y) e =
         cases (is_flow y)
-        (λ q. subst (λ (z : Float). S.FlowOf n (Flow y) z) (at_eq (rw q at e)) (S.a_flow y))
-        (λ q. absurd (refused_at (rw q at e)))
+        (λ q. let e· = rw q at e in let same : y ≡ x = cc in subst (λ (z : Float). S.FlowOf n (Flow y) z) same (S.a_flow y))
+        (λ q. let e· = rw q at e in cc)
     flow_of (Share y) e =
         cases (is_share y)
         (λ q.
-        subst (λ (z : Float). S.FlowOf n (Share y) z) (sym (same_product n y i ((same_share y).0 q)) ∙ at_eq (rw q at e)) (S.a_share y))
-        (λ q. absurd (refused_at (rw q at e)))
-    flow_of Broken e = absurd (nothing_at e)
+        let e· = rw q at e in
+        let same : mul binary32 n y ≡ x = cc in
+        subst (λ (z : Float). S.FlowOf n (Share y) z) (sym (same_product n y i ((same_share y).0 q)) ∙ same) (S.a_share y))
+        (λ q. let e· = rw q at e in cc)
+    flow_of Broken e = cc
 
-    measures : {got : Reading} {x : Float} → S.FlowOf n got x → (S.By23 got → ⊥) → measured n got ≡ At x
+    measures : {got : Reading} {x : Float} → S.FlowOf n got x → (S.By23 got → ⊥) → measured n got ≡ Ok (Some x)
     measures (S.a_flow y) b = rw (flow_in y b)
-    measures (S.a_share y) b = let q = share_in y b in rw q (ap At (same_product n y i ((same_share y).0 q)))
+    measures (S.a_share y) b = let q = share_in y b in rw q (ap (λ (y : Float). Ok (Some y)) (same_product n y i ((same_share y).0 q)))
 
 -- ── An accepted call ──
 
@@ -171,7 +167,7 @@ ticked_is : (r : FlowRecord) → ticked r ≡ S.after r r.last (S.risen r) r.sen
 ticked_is r = rw add-one
 
 -- a call with a flow, and one that is broken
-hear_at : (r : FlowRecord) (got : Reading) (x : Float) → well_formed r ≡ true → measured r.nominal got ≡ At x
+hear_at : (r : FlowRecord) (got : Reading) (x : Float) → well_formed r ≡ true → measured r.nominal got ≡ Ok (Some x)
     → hear_of r got ≡ told (ticked r) x
 unfolding hear_of
 hear_at r got x w m = rw (w, m)
@@ -200,7 +196,7 @@ same_hears r got o a b = (λ e. subst (S.Hears r got) e (hearing got b), λ h. h
     n : S.Between 1 1000000 r.nominal
     n = (same_setting r.nominal).0 (nominal_set r w)
 
-    flow : (got : Reading) (x : Float) → measured r.nominal got ≡ At x → is_flow x ≡ true
+    flow : (got : Reading) (x : Float) → measured r.nominal got ≡ Ok (Some x) → is_flow x ≡ true
     flow got x e = measured_flow r.nominal got x (nominal_set r w) e
 
     with_flow : (got : Reading) (x : Float) → (S.By23 got → ⊥) → S.FlowOf r.nominal got x → S.Hears r got (hear_of r got)

@@ -1,5 +1,5 @@
 -- Proofs: which calls are accepted and with what flow, ticks by the clock, the ticks since the latest report and the last flow sent.
-use Rattle.std.specs.Prelude.{◌≡◌, ◌↔◌, Bool, true, false, ◌&&◌, ℕ, ◌+◌, Float}
+use Rattle.std.specs.Prelude.{◌≡◌, ◌↔◌, Bool, true, false, ◌&&◌, ℕ, ◌+◌, Float, Option, Some, None, Result, Ok, Err}
 use Rattle.std.proofs.Math.Path.{refl, ap, subst}
 use Rattle.std.proofs.Common.{sym, ◌∙◌, add-one}
 use Rattle.std.proofs.lemmas.Bool.{false≢true}
@@ -11,11 +11,11 @@ use Rattle.numbers.specs.Says.{Says, unset, both}
 use Rattle.numbers.specs.Laws.{cases}
 use Rattle.numbers.specs.Counts as Counts
 use Rattle.numbers.specs.CountLaws.{one_more, nil_split, since_over}
-use Rattle.flow.specs.declared.Measured.{Measured}
-use Rattle.flow.specs.declared.Measured.TheVariants.{At, Nothing, Refused}
+use Rattle.flow.specs.declared.FlowRefusal.{FlowRefusal}
+use Rattle.flow.specs.declared.FlowRefusal.TheVariants as By
 use Rattle.flow.specs.Answer.{FlowAnswer, No, Silent, Report, is_report}
 use Rattle.flow.specs.Flow.{measured, well_formed}
-use Rattle.flow.specs.Laws.{settings, fresh_formed, refused_at}
+use Rattle.flow.specs.Laws.{settings, fresh_formed, refused_by_23}
 use Rattle.flow_history.specs.Claim as C
 use Rattle.flow_history.specs.Claim.{Settings, Moment, Trace, Sent, silent, sent}
 use Rattle.flow_history.specs.Theorem.{flow_fits, silent_in}
@@ -26,17 +26,17 @@ use Rattle.sentences_flow.specs.Calls as Calls
 -- ── Accepted calls ──
 
 -- a reading that is not refused
-taken_says : (f : Measured) → Says (C.taken f) (f ≡ Refused → ⊥)
-taken_says (At x) = (λ e q. refused_at (sym q), λ n. refl)
-taken_says Nothing = (λ e q. let z : ◌≡◌ {A = ℕ} 0 1 = cc in omega arith, λ n. refl)
-taken_says Refused = (λ e q. false≢true e, λ n. absurd (n refl))
+taken_says : (f : Result (Option Float) FlowRefusal) → Says (C.taken f) ((refusal : FlowRefusal) → f ≡ Err refusal → ⊥)
+taken_says (Ok (Some x)) = (λ e refusal q. cc, λ n. refl)
+taken_says (Ok None) = (λ e refusal q. cc, λ n. refl)
+taken_says (Err refusal) = (λ e r q. false≢true e, λ n. absurd (n refusal refl))
 
-not_taken : (f : Measured) → C.taken f ≡ false → f ≡ Refused
-not_taken (At x) e = absurd (false≢true (sym e))
-not_taken Nothing e = absurd (false≢true (sym e))
-not_taken Refused e = refl
+not_taken : (f : Result (Option Float) FlowRefusal) → C.taken f ≡ false → (refusal : FlowRefusal) × (f ≡ Err refusal)
+not_taken (Ok (Some x)) e = absurd (false≢true (sym e))
+not_taken (Ok None) e = absurd (false≢true (sym e))
+not_taken (Err refusal) e = (refusal, refl)
 
-taken_both : (b : Bool) (f : Measured) → C.taken (pick b f Refused) ≡ b && C.taken f
+taken_both : (b : Bool) (f : Result (Option Float) FlowRefusal) → C.taken (pick b f (Err By.Record)) ≡ b && C.taken f
 taken_both true f = refl
 taken_both false f = refl
 
@@ -64,7 +64,7 @@ module _ (s : Settings) where
   same_taken m =
       let e = taken_says (measured s.nominal m.reading) in
       let w = Calls.same_23 s.nominal m.reading in
-      (λ q b. e.0 q (w.1 b), λ n. e.1 (λ q. n (w.0 q)))
+      (λ q b. e.0 q By.Reading (w.1 b), λ n. e.1 (λ refusal q. n (w.0 (q ∙ ap (λ (r : FlowRefusal). Err r) (refused_by_23 _ _ refusal q)))))
 
   pub same_accepted : (m : Moment) (t : Trace) → (C.accepted s m t ≡ true) ↔ S.Accepted s m
   same_accepted m t =
@@ -77,18 +77,20 @@ module _ (s : Settings) where
 
   -- what is not accepted though 22 takes the settings is refused by 23
   pub refused_reading : (m : Moment) (t : Trace) → C.fit s ≡ true → C.accepted s m t ≡ false → S.By23 m.reading
-  refused_reading m t q a = (Calls.same_23 s.nominal m.reading).0 (not_taken _ (rw q at a))
+  refused_reading m t q a =
+      let z = not_taken (measured s.nominal m.reading) (rw q at a) in
+      (Calls.same_23 s.nominal m.reading).0 (z.1 ∙ ap (λ (r : FlowRefusal). Err r) (refused_by_23 _ _ z.0 z.1))
 
-  pub same_gives : (m : Moment) (x : Float) → (C.flow_in s m ≡ At x) ↔ S.Gives s m x
+  pub same_gives : (m : Moment) (x : Float) → (C.flow_in s m ≡ Ok (Some x)) ↔ S.Gives s m x
   same_gives m x = (there, back)
     where
-      there : C.flow_in s m ≡ At x → S.Gives s m x
+      there : C.flow_in s m ≡ Ok (Some x) → S.Gives s m x
       there f =
           let k = flow_fits s m x f in
           let z = (Calls.same_measured s.nominal m.reading x (fit_nominal k.0)).0 k.1 in
           record { accepted = record { not_22 = same_fit.0 k.0; not_23 = z.0 }; flow = z.1 }
 
-      back : S.Gives s m x → C.flow_in s m ≡ At x
+      back : S.Gives s m x → C.flow_in s m ≡ Ok (Some x)
       back g =
           let k = same_fit.1 g.accepted.not_22 in
           rw k ((Calls.same_measured s.nominal m.reading x (fit_nominal k)).1 (g.accepted.not_23, g.flow))

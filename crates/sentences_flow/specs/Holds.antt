@@ -1,5 +1,5 @@
 -- Proofs: each sentence of W-209's claim at one call of a trace.
-use Rattle.std.specs.Prelude.{◌≡◌, refl, ◌↔◌, true, false, [], ◌∷◌, ◌++◌, ℕ, ◌+◌, ◌≤◌, leb, length, take, drop, Float}
+use Rattle.std.specs.Prelude.{◌≡◌, refl, ◌↔◌, true, false, [], ◌∷◌, ◌++◌, ℕ, ◌+◌, ◌≤◌, leb, length, take, drop, Float, Option, Some, None, Result, Ok, Err}
 use Rattle.std.proofs.Common.{sym, ap, subst, ◌∙◌, arith, add-one, take-append-drop}
 use Rattle.std.proofs.lemmas.Bool.{false≢true}
 use Rattle.std.proofs.Math.Seq.{drop-append_seam}
@@ -8,13 +8,12 @@ use Rattle.numbers.specs.Laws.{cases}
 use Rattle.numbers.specs.Says.{Says, unset, both, at_most, same_flags}
 use Rattle.numbers.specs.Counts as Counts
 use Rattle.numbers.specs.CountLaws.{quiet_last, since_stretch}
-use Rattle.flow.specs.declared.Measured.{Measured}
-use Rattle.flow.specs.declared.Measured.TheVariants.{At, Nothing, Refused}
+use Rattle.flow.specs.declared.FlowRefusal.{FlowRefusal}
 use Rattle.flow.specs.Answer.{FlowAnswer, No, Silent, Report, number_of}
 use Rattle.flow.specs.Flow.{is_flow, apart, percent_of, Greatest}
 use Rattle.flow.specs.FloatLaws.{below_not}
 use Rattle.flow.specs.PercentLaws.{percent_greatest, greatest_unique}
-use Rattle.flow.specs.Laws.{Settings, settings, refused_at, nothing_at, measured_flow, below_cov}
+use Rattle.flow.specs.Laws.{Settings, settings, measured_flow, below_cov}
 use Rattle.flow_history.specs.Claim as C
 use Rattle.flow_history.specs.Claim.{Moment, Trace, Sent, silent, sent}
 use Rattle.flow_history.specs.Theorem.{flow_fits, near, silent_in}
@@ -48,10 +47,10 @@ Known t = (y : Float) → C.last_sent t ≡ sent y → is_flow y ≡ true
 
 module _ (s : C.Settings) (m : Moment) where
   -- a call with a flow has settings that 22 takes, and a flow from 0 to 1,000,000
-  flow_settings : (x : Float) → C.flow_in s m ≡ At x → Settings s.nominal s.cov s.time
+  flow_settings : (x : Float) → C.flow_in s m ≡ Ok (Some x) → Settings s.nominal s.cov s.time
   flow_settings x f = settings _ _ _ (flow_fits s m x f).0
 
-  pub flow_range : (x : Float) → C.flow_in s m ≡ At x → is_flow x ≡ true
+  pub flow_range : (x : Float) → C.flow_in s m ≡ Ok (Some x) → is_flow x ≡ true
   flow_range x f = measured_flow s.nominal m.reading x (flow_settings x f).nominal (flow_fits s m x f).1
 
 module _ (s : C.Settings) (m : Moment) (t : Trace) where
@@ -99,7 +98,7 @@ module _ (s : C.Settings) (m : Moment) (t : Trace) where
               let a : Report x p ≡ Report z.flow z.percent = sym (carries_is c) ∙ z.said in
               let ex : z.flow ≡ x = cc in
               let ep : z.percent ≡ p = cc in
-              let g : C.flow_in s m ≡ At x = z.given ∙ ap At ex in
+              let g : C.flow_in s m ≡ Ok (Some x) = z.given ∙ ap (λ (y : Float). Ok (Some y)) ex in
               let n = (Floats.same_setting s.nominal).0 (flow_settings s m x g).nominal in
               let w = (Floats.same_flow x).0 (flow_range s m x g) in
               let most : Greatest s.nominal x p = subst (Greatest s.nominal x) ep (rw ex at z.greatest) in
@@ -132,13 +131,13 @@ module _ (s : C.Settings) (m : Moment) (t : Trace) where
     λ f n. (unset _ (same_reports m)).1 (λ r. let g = f r in n g.0 ((same_gives s m g.0).1 g.1)),
   )
     where
-      none : C.Others s m t → S.Reports m → ((x : Float) → C.flow_in s m ≡ At x → ⊥) → (x : Float) × S.Gives s m x
+      none : C.Others s m t → S.Reports m → ((x : Float) → C.flow_in s m ≡ Ok (Some x) → ⊥) → (x : Float) × S.Gives s m x
       none f r n = absurd ((unset _ (same_reports m)).0 (f n) r)
 
-      go : (u : Measured) → C.flow_in s m ≡ u → C.Others s m t → S.Reports m → (x : Float) × S.Gives s m x
-      go (At x) e f r = (x, (same_gives s m x).0 e)
-      go Nothing e f r = none f r (λ x q. nothing_at (sym e ∙ q))
-      go Refused e f r = none f r (λ x q. refused_at (sym e ∙ q))
+      go : (u : Result (Option Float) FlowRefusal) → C.flow_in s m ≡ u → C.Others s m t → S.Reports m → (x : Float) × S.Gives s m x
+      go (Ok (Some x)) e f r = (x, (same_gives s m x).0 e)
+      go (Ok None) e f r = none f r (λ x q. let z = sym e ∙ q in cc)
+      go (Err refusal) e f r = none f r (λ x q. let z = sym e ∙ q in cc)
 
   pub same_silence : C.Silence s m t ↔ S.Silence s m t
   same_silence = (
@@ -171,7 +170,7 @@ module _ (s : C.Settings) (m : Moment) (t : Trace) where
 -- Where the last flow sent is one from 0 to 1,000,000.
 module _ (s : C.Settings) (m : Moment) (t : Trace) (known : Known t) where
   -- what has to be sent
-  same_new : (x : Float) → C.flow_in s m ≡ At x → Says (C.differs s.cov x (C.last_sent t)) (S.New s x t)
+  same_new : (x : Float) → C.flow_in s m ≡ Ok (Some x) → Says (C.differs s.cov x (C.last_sent t)) (S.New s x t)
   same_new x f = (there (C.last_sent t) refl, back)
     where
       far : (y : Float) → C.last_sent t ≡ sent y → Says (le s.cov (apart x y)) (S.Differs s.cov x y)

@@ -6,11 +6,11 @@
 -- How to read it: crates/sentences/specs/Sentences.antt.
 --   `S.` the request in its second form (Paper.antt); `C.` the product's definitions of the claim
 -- Traces have the latest call first: `m ∷ t` is the call m after the trace t.
-use Rattle.std.specs.Prelude.{◌≡◌, ◌↔◌, true, false, List, ◌++◌, ℕ, suc, ◌+◌, ◌≤◌, min, Float}
+use Rattle.std.specs.Prelude.{◌≡◌, ◌↔◌, true, false, List, ◌++◌, ℕ, suc, ◌+◌, ◌≤◌, min, Float, Some, Ok, Err}
 use Rattle.std.specs.Float.{binary32}
 use Rattle.std.specs.Float.Ieee.{mul, le}
 use Rattle.flow.specs.declared.Reading.{Reading}
-use Rattle.flow.specs.declared.Measured.TheVariants.{At, Refused}
+use Rattle.flow.specs.declared.FlowRefusal.TheVariants as By
 use Rattle.flow.specs.declared.FlowRecord.{FlowRecord}
 use Rattle.flow.specs.declared.FlowHeard.{FlowHeard}
 use Rattle.flow.specs.Answer.{No, FlowOutcome}
@@ -69,11 +69,11 @@ pub refused_23 : (r : FlowRecord) (got : Reading) → (S.By22 r → ⊥) → S.B
 refused_23 r got n b = Calls.refused_23 r got n b
 
 -- which readings these are, and the flow of any other: "A share becomes a flow by one rounded product with nominal."
-pub not_measured : (n : Float) (got : Reading) → (measured n got ≡ Refused) ↔ S.By23 got
+pub not_measured : (n : Float) (got : Reading) → (measured n got ≡ Err By.Reading) ↔ S.By23 got
 not_measured n got = Calls.same_23 n got
 
 pub measured_as : (n : Float) (got : Reading) (x : Float) → S.Between 1 1000000 n
-    → (measured n got ≡ At x) ↔ ((S.By23 got → ⊥) × S.FlowOf n got x)
+    → (measured n got ≡ Ok (Some x)) ↔ ((S.By23 got → ⊥) × S.FlowOf n got x)
 measured_as n got x a = Calls.same_measured n got x a
 
 -- every other call is accepted: "One accepted call is one tick: since rises first. A report carries flow and percent, becomes the last flow
@@ -104,7 +104,7 @@ module _ (s : Settings) where
   pub accepted : (m : Moment) (t : Trace) → (C.accepted s m t ≡ true) ↔ S.Accepted s m
   accepted m t = Counts.same_accepted s m t
 
-  pub gives : (m : Moment) (x : Float) → (C.flow_in s m ≡ At x) ↔ S.Gives s m x
+  pub gives : (m : Moment) (x : Float) → (C.flow_in s m ≡ Ok (Some x)) ↔ S.Gives s m x
   gives m x = Counts.same_gives s m x
 
   pub ticks : (new old : Trace) (c : ℕ) → S.Clock s old c → S.Clock s (new ++ old) (C.ticks_in s new old + c)

@@ -26,11 +26,11 @@ pub right_length : (columns : ℕ) (t : List ℕ) → length (S.right columns t)
 unfolding S.right
 right_length columns t = simp (length-drop, length-append, length-replicate) (omega arith)
 
-left_length : (columns : ℕ) (t : List ℕ) → length (S.left columns t) ≡ columns
+pub left_length : (columns : ℕ) (t : List ℕ) → length (S.left columns t) ≡ columns
 unfolding S.left
 left_length columns t = simp (length-take, length-append, length-replicate) (omega arith)
 
-binary_length : (digits n : ℕ) → length (S.binary digits n) ≡ digits
+pub binary_length : (digits n : ℕ) → length (S.binary digits n) ≡ digits
 unfolding S.binary
 binary_length zero n = refl
 binary_length (suc digits) n = ap suc (binary_length digits n)

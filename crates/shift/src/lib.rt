@@ -1,123 +1,118 @@
-// The shift page's lines, written into a buffer. Each function but the first writes from `at` on and answers the place after what it
-// wrote.
+// The shift page's lines, written into a buffer.
+// Kept: no `write!` with columns and binary digits, for the reason that stands at line's put_answer.
 #![tactic(auto)]
 
 ghost use Rattle.std.specs.Prelude.{◌≡◌, [], ◌∷◌, ◌++◌, ◌+◌, ◌<◌, ◌≤◌, length};
+ghost use Rattle.answer.specs.Refusal.{refused_by};
 ghost use Rattle.line.specs.Line.{decimal, spaced, Written};
+ghost use Rattle.line.specs.Writing.{Fits, Wrote};
 ghost use Rattle.rules.specs.Rank.{source_at};
 ghost use Rattle.shift.specs.Shift.{blanks, right, left, binary, name_of, fields, drive_line, page_refusal};
 
-use damper::Drive;
-use line::{put_byte, put_bytes};
+use answer::{Refusal, refuse};
+use damper::{Drive, Rank};
+use line::Writer;
 
 // Bytes of a line.
 const LINE: usize = 29;
 
-// 14, then 17 where the page has fewer bytes than the lines of so many drives, or 0.
-pub fn page_refusal(drives: usize, bytes: usize) -> u8
-    ensures { result ≡ page_refusal drives bytes }
+// Refused by 14, then by 17 where the page has fewer bytes than the lines of so many drives.
+#[tactic(auto, unfolding(crate::specs::Shift::page_refusal))]
+pub fn page_refusal(drives: usize, bytes: usize) -> Result<(), Refusal>
+    ensures { refused_by result ≡ page_refusal drives bytes }
 {
-    if hall::bad_row(drives) {
-        return 14;
-    }
-    numbers::pick8(bytes < LINE * drives, 17, 0)
+    refuse(hall::bad_row(drives), Refusal::Row)?;
+    refuse(bytes < LINE * drives, Refusal::Page)
 }
 
-// At most two blanks. (Copied from a row of two by their number, they would be a call of memcpy, and an archive calls nothing outside.)
-fn put_blanks(out: &mut [u8], at: usize, count: usize) -> usize
-    requires count_bound { count ≤ 2 }
-    requires count_in_bounds { at + count ≤ length out.old }
-    ensures { Written out.old out.new at result (blanks count) }
+// At most two blanks.
+// Kept: three lengths and no loop, which would be a call of memset or memcpy, and an archive calls nothing outside.
+fn put_blanks(w: &mut Writer, count: usize)
+    requires few { count ≤ 2 }
+    requires room { Fits w.old count }
+    ensures { Wrote w.old w.new (blanks count) }
 {
-    if count == 0 {
-        return at;
+    match count {
+        0 => {}
+        1 => w.put_byte(b' '),
+        _ => w.put_bytes(b"  "),
     }
-    if count == 1 {
-        return put_byte(out, at, b' ');
-    }
-    put_bytes(out, at, b"  ")
 }
 
 // A number to the right in at most three columns, of no more digits than these.
-fn put_right(out: &mut [u8], at: usize, columns: usize, n: u8) -> usize
-    requires n_len_bound { (length (decimal n) ≤ columns) × (columns ≤ 3) }
-    requires columns_in_bounds { at + columns ≤ length out.old }
-    ensures { Written out.old out.new at result (right columns (decimal n)) }
+#[tactic(auto, using(line::specs::Laws::digits_some, line::specs::Writing::wrote_both, crate::specs::Laws::right_is))]
+fn put_right(w: &mut Writer, columns: usize, n: u8)
+    requires digits { (length (decimal n) ≤ columns) × (columns ≤ 3) }
+    requires room { Fits w.old columns }
+    ensures { Wrote w.old w.new (right columns (decimal n)) }
 {
-    let first = put_blanks(out, at, columns - line::digits(n));
-    line::put_decimal(out, first, n as u64)
+    put_blanks(w, columns - line::digits(n));
+    w.put_decimal(n as u64);
 }
 
 // A blank and a byte in three columns.
-fn put_number(out: &mut [u8], at: usize, n: u8) -> usize
-    requires { at + 4 ≤ length out.old }
-    ensures written { Written out.old out.new at result (32 ∷ right 3 (decimal n)) }
-    ensures end { result ≡ at + 4 }
+#[tactic(auto, using(line::specs::Laws::byte_digits))]
+fn put_number(w: &mut Writer, n: u8)
+    requires { Fits w.old 4 }
+    ensures { Wrote w.old w.new (32 ∷ right 3 (decimal n)) }
 {
-    let number = put_byte(out, at, b' ');
-    put_right(out, number, 3, n)
+    w.put_byte(b' ');
+    put_right(w, 3, n);
 }
 
 // A blank and the name of the source at a rank.
-fn put_name(out: &mut [u8], at: usize, rank: u8) -> usize
-    requires rank_bound { rank < 7 }
-    requires at_in_bounds { at + 9 ≤ length out.old }
-    ensures written { Written out.old out.new at result (32 ∷ left 8 (name_of (source_at rank))) }
-    ensures end { result ≡ at + 9 }
+#[tactic(auto, unfolding(crate::specs::Shift::left))]
+fn name(rank: Rank) -> &'static [u8; 9]
+    ensures { result.now ≡ 32 ∷ left 8 (name_of (source_at rank.number)) }
 {
-    match rank {
-        Drive::FAULT => put_bytes(out, at, b" fault   "),
-        Drive::FORCING => put_bytes(out, at, b" forced  "),
-        Drive::RUN => put_bytes(out, at, b" run     "),
-        Drive::HAND => put_bytes(out, at, b" hand    "),
-        Drive::TOOL => put_bytes(out, at, b" tool    "),
-        Drive::BUS => put_bytes(out, at, b" bus     "),
-        _ => put_bytes(out, at, b" backup  "),
+    match rank.number {
+        Drive::FAULT => b" fault   ",
+        Drive::FORCING => b" forced  ",
+        Drive::RUN => b" run     ",
+        Drive::HAND => b" hand    ",
+        Drive::TOOL => b" tool    ",
+        Drive::BUS => b" bus     ",
+        _ => b" backup  ",
     }
 }
 
-// A blank and eight binary digits.
-fn put_binary(out: &mut [u8], at: usize, v: u8) -> usize
-    requires { at + 9 ≤ length out.old }
-    ensures written { Written out.old out.new at result (32 ∷ binary 8 v) }
-    ensures end { result ≡ at + 9 }
+// Eight binary digits, the highest bit first.
+fn put_binary(w: &mut Writer, v: u8)
+    requires { Fits w.old 8 }
+    ensures { Wrote w.old w.new (binary 8 v) }
 {
-    let digits: [u8; 9] = [
-        b' ',
-        b'0' + v / 128 % 2,
-        b'0' + v / 64 % 2,
-        b'0' + v / 32 % 2,
-        b'0' + v / 16 % 2,
-        b'0' + v / 8 % 2,
-        b'0' + v / 4 % 2,
-        b'0' + v / 2 % 2,
-        b'0' + v % 2,
-    ];
-    put_bytes(out, at, &digits)
+    for bit in (0..8u8).rev() {
+        w.put_byte(b'0' + (v >> bit) % 2);
+    }
 }
 
 // The fields behind the number, and the line feed.
-fn put_fields(out: &mut [u8], at: usize, position: u8, rank: u8, status: u8) -> usize
-    requires rank_bound { rank < 7 }
-    requires at_in_bounds { at + 27 ≤ length out.old }
-    ensures { Written out.old out.new at result (spaced (fields position (source_at rank) status) ++ (10 ∷ [])) }
+#[tactic(auto, using(crate::specs::Laws::right_length, crate::specs::Laws::left_length, crate::specs::Laws::binary_length))]
+fn put_fields(w: &mut Writer, position: u8, rank: Rank, status: u8)
+    requires { Fits w.old 27 }
+    ensures { Wrote w.old w.new (spaced (fields position (source_at rank.number) status) ++ (10 ∷ [])) }
 {
-    let percent = put_number(out, at, position);
-    let name = put_number(out, percent, motion::to_percent(position));
-    let digits = put_name(out, name, rank);
-    let feed = put_binary(out, digits, status);
-    put_byte(out, feed, b'\n')
+    put_number(w, position);
+    put_number(w, motion::to_percent(position));
+    w.put_bytes(name(rank));
+    w.put_byte(b' ');
+    put_binary(w, status);
+    w.put_byte(b'\n');
 }
 
-// The line of a drive by its number.
+// The line of a drive by its number, from `at` on; the answer is the place after it.
+// Kept: buffer and place, and no writer, since what it promises, `Written`, is about these, and a writer would have to be made by the call.
+#[tactic(auto, using(crate::specs::Laws::right_length))]
 pub fn put_drive(out: &mut [u8], at: usize, number: usize, d: Drive) -> usize
     requires { (number < 64) × (at + 29 ≤ length out.old) }
     ensures { Written out.old out.new at result (drive_line number d) }
 {
-    let rest = put_right(out, at, 2, number as u8);
-    if d.well_formed() {
-        put_fields(out, rest, d.position, d.ruling(), d.status())
-    } else {
-        put_bytes(out, rest, b" --- --- -------- --------\n")
+    let mut w = Writer { out, at };
+    put_right(&mut w, 2, number as u8);
+    if !d.well_formed() {
+        w.put_bytes(b" --- --- -------- --------\n");
+        return w.at;
     }
+    put_fields(&mut w, d.position, d.ruling(), d.status());
+    w.at
 }

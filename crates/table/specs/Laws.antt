@@ -1,8 +1,8 @@
--- Laws of the table: the range rule at each row, from one test of the whole table, and the search by number.
-use Rattle.std.specs.Prelude.{◌≡◌, refl, Bool, true, false, ◌&&◌, List, [], ◌∷◌, map, ℕ, zero, suc, ◌+◌, ◌<◌, ◌≤◌, leb, eqb, length, get_or, drop, set}
-use Rattle.std.proofs.Common.{ap, subst, arith, add-one, not-suc-le-zero, le_of_suc-le-suc, eq-eqb, ne_eqb, eqb-true, leb-true, drop_of_length-le}
+-- Laws of the table: the range rule at each row, from one test of the whole table, and the search by number, which is the library's.
+use Rattle.std.specs.Prelude.{◌≡◌, refl, Bool, true, false, ◌&&◌, List, [], ◌∷◌, map, ℕ, zero, suc, ◌+◌, ◌<◌, ◌≤◌, cond, Some, None, leb, ltb, eqb, length, get_or, set}
+use Rattle.std.specs.List.{position_from, list_all, zip}
+use Rattle.std.proofs.Common.{ap, subst, arith, not-suc-le-zero, le_of_suc-le-suc, eqb-true, leb-true, lt-ltb, le-ltb}
 use Rattle.std.proofs.lemmas.Bool.{false≢true}
-use Rattle.std.proofs.Math.Seq.{drop-cons}
 use Rattle.numbers.specs.Numbers.{pick}
 use Rattle.numbers.specs.Laws.{and_left, and_right, and_intro}
 use Rattle.table.specs.declared.Row.{Row}
@@ -62,28 +62,33 @@ all_set (r ∷ l) (x ∷ p) zero v e h = and_intro h (and_right (Table.in_range 
 all_set (r ∷ l) (x ∷ p) (suc i) v e h =
     and_intro (and_left (Table.in_range r x) _ e) (all_set l p i v (and_right (Table.in_range r x) _ e) h)
 
--- one turn of the test of the whole table
-module _ (l : List Row) (p : List ℕ) (i : ℕ) (h : i < length l) (k : i < length p) where
-  pub turn : Table.all_in (drop i l) (drop i p) ≡ Table.in_range (Table.row_at l i) (get_or p i 0) && Table.all_in (drop (i + 1) l) (drop (i + 1) p)
-  unfolding Table.all_in
-  turn = rw (add-one, drop-cons l i (Table.row 0 0 0 0), drop-cons p i 0)
+-- the search is the library's
+pub place_from_is : (l : List Row) (i n : ℕ) → position_from (λ (r : Row). eqb r.number n) i l
+    ≡ pick (ltb (Table.place_from l i n) (i + length l)) (Some (Table.place_from l i n)) None
+unfolding Table.place_from
+place_from_is [] i n = rw (le-ltb i (i + 0) (omega arith)) refl
+place_from_is (r ∷ l) i n = go (eqb r.number n) (place_from_is l (i + 1) n)
+  where
+    go : (b : Bool)
+        → position_from (λ (r : Row). eqb r.number n) (i + 1) l
+        ≡ pick (ltb (Table.place_from l (i + 1) n) (i + 1 + length l)) (Some (Table.place_from l (i + 1) n)) None
+        → cond b (Some i) (position_from (λ (r : Row). eqb r.number n) (i + 1) l)
+        ≡ pick (ltb (pick b i (Table.place_from l (i + 1) n)) (i + suc (length l))) (Some (pick b i (Table.place_from l (i + 1) n))) None
+    go true h = rw (lt-ltb i (i + suc (length l)) (omega arith)) refl
+    go false h =
+        let e : i + suc (length l) ≡ i + 1 + length l = omega arith in
+        rw e h
 
-pub past : (l : List Row) (p : List ℕ) (i : ℕ) → length l ≤ i → length p ≤ i → Table.all_in (drop i l) (drop i p) ≡ true
+pub place_of_is : (n : ℕ) → position_from (λ (r : Row). eqb r.number n) 0 Table.rows ≡ pick (Table.known n) (Some (Table.place_of n)) None
+place_of_is n = place_from_is Table.rows 0 n
+
+-- the test of the whole table is the library's over the rows beside their values
+pub all_in_is : (l : List Row) (p : List ℕ) → length p ≡ length l → list_all (λ (q : Row × ℕ). Table.in_range q.0 q.1) (zip l p) ≡ Table.all_in l p
 unfolding Table.all_in
-past l p i h k = rw (drop_of_length-le l h, drop_of_length-le p k)
-
--- the search, one row at a time
-pub hit : (l : List Row) (i n : ℕ) → i < length l → (Table.row_at l i).number ≡ n → Table.place_from (drop i l) i n ≡ i
-unfolding Table.place_from
-hit l i n h e = rw (drop-cons l i (Table.row 0 0 0 0)) (rw (eq-eqb _ n e))
-
-pub miss : (l : List Row) (i n : ℕ) → i < length l → ((Table.row_at l i).number ≡ n → ⊥) → Table.place_from (drop i l) i n ≡ Table.place_from (drop (i + 1) l) (i + 1) n
-unfolding Table.place_from
-miss l i n h e = rw (add-one, drop-cons l i (Table.row 0 0 0 0)) (rw (ne_eqb _ n e, add-one))
-
-pub none : (l : List Row) (i n : ℕ) → length l ≤ i → Table.place_from (drop i l) i n ≡ i
-unfolding Table.place_from
-none l i n h = rw (drop_of_length-le l h)
+all_in_is [] [] e = refl
+all_in_is [] (v ∷ p) e = absurd (omega arith)
+all_in_is (r ∷ l) [] e = absurd (omega arith)
+all_in_is (r ∷ l) (v ∷ p) e = ap (λ b. Table.in_range r v && b) (all_in_is l p (omega arith))
 
 -- the named places are those of the numbers
 pub places : map Table.place_of (111 ∷ 115 ∷ 116 ∷ 117 ∷ 120 ∷ 121 ∷ 122 ∷ 201 ∷ 202 ∷ 203 ∷ 204 ∷ 205 ∷ []) ≡ (0 ∷ 1 ∷ 2 ∷ 3 ∷ 4 ∷ 5 ∷ 6 ∷ 7 ∷ 8 ∷ 9 ∷ 10 ∷ 11 ∷ [])

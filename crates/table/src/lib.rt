@@ -1,8 +1,15 @@
 // The parameter table: one constant of twelve rows, the search by number, the range rule and the fresh values.
 #![tactic(auto)]
 
-ghost use Rattle.std.specs.Prelude.{◌≡◌, ◌<◌};
+ghost use Rattle.std.specs.Prelude.{◌≡◌, ℕ, ◌<◌, eqb};
+ghost use Rattle.std.specs.List.{position_from, list_all, zip};
+ghost use Rattle.table.specs.declared.Row.{Row};
+ghost use Rattle.numbers.specs.Numbers.{pick};
 ghost use Rattle.table.specs.Table.{rows, place_of, in_range, all_in, known, takes, fresh_values};
+
+mod params;
+
+pub use params::Params;
 
 #[derive(Clone, Copy)]
 pub struct Row {
@@ -124,28 +131,25 @@ pub const TABLE: [Row; COUNT] = [
     },
 ];
 
-// The place of the row with number n, or COUNT where none has it. (The table is a local: a constant that is indexed in a
-// loop is built anew at each turn.)
-pub fn place_of(n: u8) -> usize
-    ensures { result ≡ place_of n }
+fn place_in(rows: &[Row], n: u8) -> Option<usize>
+    ensures { result ≡ position_from (λ (r : Row). eqb r.number n) 0 rows.now }
 {
-    let table = TABLE;
-    let mut i: usize = 0;
-    while i < COUNT {
-        let row = table[i];
-        if row.number == n {
-            return i;
-        }
-        i += 1;
-    }
-    i
+    rows.iter().position(|row| row.number == n)
+}
+
+// The place of the row with number n.
+#[tactic(auto, using(crate::specs::Laws::place_of_is))]
+pub fn place_of(n: u8) -> Option<usize>
+    ensures { result ≡ pick (known n) (Some (place_of n)) None }
+{
+    place_in(&TABLE, n)
 }
 
 // Whether n is a number of the table.
 pub fn known(n: u8) -> bool
     ensures { result ≡ known n }
 {
-    place_of(n) < COUNT
+    place_of(n).is_some()
 }
 
 // The range rule.
@@ -159,33 +163,29 @@ fn in_range(row: Row, v: u16) -> bool
 pub fn takes(n: u8, v: u16) -> bool
     ensures { result ≡ takes n v }
 {
-    let table = TABLE;
-    let mut i: usize = 0;
-    while i < COUNT {
-        let row = table[i];
-        if row.number == n {
-            return in_range(row, v);
-        }
-        i += 1;
+    match place_of(n) {
+        Some(place) => in_range(TABLE[place], v),
+        None => false,
     }
-    false
+}
+
+fn each_in(rows: &[Row], values: &[u16]) -> bool
+    ensures { result ≡ list_all (λ (q : Row × ℕ). in_range q.0 q.1) (zip rows.now values.now) }
+{
+    rows.iter()
+        .zip(values.iter())
+        .all(|(row, v)| in_range(*row, *v))
 }
 
 // Whether each value lies in the range of its row.
 pub fn all_in(values: [u16; COUNT]) -> bool
     ensures { result ≡ all_in rows values }
 {
-    let table = TABLE;
-    let mut ok = true;
-    let mut i: usize = 0;
-    while i < COUNT {
-        ok = ok & in_range(table[i], values[i]);
-        i += 1;
-    }
-    ok
+    each_in(&TABLE, &values)
 }
 
 // The fresh value of each parameter.
+// Kept: each by its place. Of `TABLE.map(|row| row.fresh)` the proof did not close.
 pub fn fresh_values() -> [u16; COUNT]
     ensures { result ≡ fresh_values }
 {

@@ -1,9 +1,4 @@
--- The counts of the first `i` places are changed to their parts, their keys are noted, and `left` is what these parts leave of the bill.
-use mathlib.Core.Path.{◌≡◌, refl, ap, ◌∙◌}
-use Prim.Native.Nat.{ℕ, ◌*◌}
-use native.Mathlib.Omega.{arith}
-use native.Mathlib.Nat.{mod-lt, mul-le-mul_right}
-use lib.ListN.{length, length-set}
+use Rattle.std.proofs.Common.{◌≡◌, ℕ, ◌<◌, length, arith, ap, length-set, ◌∙◌}
 use Rattle.order.specs.Keys.{key_of}
 use Rattle.bill.specs.Sums.{sum_below, sum_more}
 use Rattle.bill.specs.Bill.{part}
@@ -11,74 +6,56 @@ use Rattle.bill.specs.Rows.{change_start, change_end, change_turn}
 use Rattle.bill.specs.Settle.{quotient, part_most, part_left, keyed_turn}
 use Rattle.bill.proofs.divide.Goals as goal
 
-pub loop-i-init : goal.loop-i-init
+pub loop-place-init : goal.loop-place-init
 unfolding sum_below
-loop-i-init c =
-    let p = c.requires in
-    (omega arith, refl, change_start _ _, p.1, p.2, record { at = λ j h. absurd (omega arith) }, omega arith)
-
-pub overflow_mul-product : goal.overflow_mul-product
-overflow_mul-product c =
-    let l = c.loop-i in
-    let p = c.requires.0 in
-    let more = mul-le-mul_right c.wide.result p.most in
-    let small = c.slice_known-in-loop-i-1.given l.i in
-    let same = c.wide.ensures in
-    record { fits = omega arith }
+loop-place-init c = (change_start _ _, record { at = λ j h. absurd (omega arith) }, omega arith, c.requires.1)
 
 pub overflow_cast-part : goal.overflow_cast-part
 overflow_cast-part c =
-    let l = c.loop-i in
+    let l = c.loop-place in
     let a = c.args in
     let p = c.requires.0 in
-    let w = c.wide in
-    let same = quotient a.bill a.row.now l.row l.i w.result a.total l.invariant.2 (omega arith) w.ensures p.sum in
-    let most = part_most a.bill a.row.now (rw p.sum at p.moved) l.i (omega arith) in
+    let w = c.from in
+    let same = quotient a.bill a.row.now l.row l.place w.result a.total l.invariant.0 (omega arith) w.ensures p.sum in
+    let most = part_most a.bill a.row.now (rw p.sum at p.moved) l.place (omega arith) in
     omega (arith, same.0, most, p.most)
-
-pub key-key-requires : goal.key-key-requires
-key-key-requires c =
-    let a = c.args in
-    let p = c.requires.0 in
-    let rest = mod-lt (a.bill * c.wide.result) p.moved in
-    (omega arith, omega arith)
 
 pub overflow_sub-left : goal.overflow_sub-left
 overflow_sub-left c =
-    let l = c.loop-i in
+    let l = c.loop-place in
     let a = c.args in
     let p = c.requires.0 in
-    let w = c.wide in
-    let same = quotient a.bill a.row.now l.row l.i w.result a.total l.invariant.2 (omega arith) w.ensures p.sum in
-    let most = part_left a.bill a.row.now (rw p.sum at p.moved) l.i l.left (omega arith) l.invariant.6 in
+    let w = c.from in
+    let same = quotient a.bill a.row.now l.row l.place w.result a.total l.invariant.0 (omega arith) w.ensures p.sum in
+    let most = part_left a.bill a.row.now (rw p.sum at p.moved) l.place l.left (omega arith) l.invariant.2 in
     omega (arith, same.0, most)
 
-pub loop-i-preserved : goal.loop-i-preserved
-loop-i-preserved c =
-    let l = c.loop-i in
+pub loop-place-preserved : goal.loop-place-preserved
+loop-place-preserved c =
+    let l = c.loop-place in
     let a = c.args in
     let p = c.requires.0 in
-    let w = c.wide in
-    let same = quotient a.bill a.row.now l.row l.i w.result a.total l.invariant.2 (omega arith) w.ensures p.sum in
-    let most = part_left a.bill a.row.now (rw p.sum at p.moved) l.i l.left (omega arith) l.invariant.6 in
-    let more = sum_more (part a.bill a.row.now) l.i in (
-      omega arith,
-      length-set l.row l.i _ ∙ l.invariant.1,
-      change_turn _ a.row.now l.row l.i l.invariant.2 (omega arith) _ same.0,
-      length-set l.lows l.i _ ∙ l.invariant.3,
-      length-set l.highs l.i _ ∙ l.invariant.4,
-      keyed_turn a.bill a.row.now l.lows l.highs l.i _ l.invariant.5 (omega arith) (omega arith)
-          (c.key-key.ensures.0 ∙ ap (λ (x : ℕ). key_of x l.i) same.1),
-      omega (arith, same.0, most, more, l.invariant.6),
+    let w = c.from in
+    let same = quotient a.bill a.row.now l.row l.place w.result a.total l.invariant.0 (omega arith) w.ensures p.sum in
+    let most = part_left a.bill a.row.now (rw p.sum at p.moved) l.place l.left (omega arith) l.invariant.2 in
+    let more = sum_more (part a.bill a.row.now) l.place in
+    let key = c.key.ensures.0 ∙ ap (λ (x : ℕ). key_of x l.place) same.1 in
+    let low : l.place < length l.keys.lows.now = omega (arith, l.invariant.3) in
+    let high : l.place < length l.keys.highs.now = omega (arith, low, l.keys.same) in (
+      change_turn _ a.row.now l.row l.place l.invariant.0 (omega arith) _ same.0,
+      rw (c.note.ensures.lows, c.note.ensures.highs)
+          (keyed_turn a.bill a.row.now l.keys.lows.now l.keys.highs.now l.place _ l.invariant.1 low high key),
+      omega (arith, same.0, most, more, l.invariant.2),
+      rw c.note.ensures.lows (length-set l.keys.lows.now l.place _ ∙ l.invariant.3),
     )
 
-pub returns : goal.returns
-returns c =
-    let l = c.loop-i in
+pub returns-clause-divided : goal.returns-clause-divided
+returns-clause-divided c =
+    let l = c.loop-place in
     let a = c.args in
-    let end : l.i ≡ length a.row.now = omega arith in
+    let end : l.place ≡ length a.row.now = omega arith in
     record {
-      divided = l.invariant.2 ∙ rw end (change_end _ a.row.now);
-      keyed = rw end at l.invariant.5;
-      over = omega (arith, rw end at l.invariant.6);
+      divided = l.invariant.0 ∙ rw end (change_end _ a.row.now);
+      keyed = rw end at l.invariant.1;
+      over = omega (arith, rw end at l.invariant.2);
     }

@@ -1,18 +1,13 @@
--- The counts of the first `i` places are changed to their parts, their keys are noted, and `left` is what these parts leave of the bill.
-use mathlib.Core.Path.{◌≡◌}
-use Prim.Native.Nat.{◌+◌, ◌-◌, ◌≤◌}
-use lib.ListN.{length}
+-- The counts so far are changed to their parts, their keys are noted, and `left` is what these parts leave of the bill.
+use Rattle.std.specs.Prelude.{◌≡◌, ◌+◌, length}
 use Rattle.bill.specs.Sums.{sum_below}
 use Rattle.bill.specs.Bill.{part}
 use Rattle.bill.specs.Rows.{changed}
 use Rattle.bill.specs.Settle.{Keyed}
 use Rattle.bill.proofs.divide.Given as goal
 
-abbrev pub invariant-loop-i : goal.invariant-loop-i
-invariant-loop-i l =
-    (l.i ≤ length l.initial.row) × (length l.row ≡ length l.initial.row) × (l.row ≡ changed (part l.bill l.initial.row) l.initial.row l.i)
-    × (length l.lows ≡ 64) × (length l.highs ≡ 64) × Keyed l.bill l.initial.row l.lows l.highs l.i
-    × (l.left + sum_below l.i (part l.bill l.initial.row) ≡ l.bill)
-
-abbrev pub decreases-loop-i : goal.decreases-loop-i
-decreases-loop-i l = length l.initial.row - l.i
+abbrev pub invariant-loop-place : goal.invariant-loop-place
+invariant-loop-place l =
+    (l.row ≡ changed (part l.bill l.initial.row) l.initial.row l.place)
+    × Keyed l.bill l.initial.row l.keys.lows.now l.keys.highs.now l.place
+    × (l.left + sum_below l.place (part l.bill l.initial.row) ≡ l.bill) × (length l.keys.lows.now ≡ length l.initial.row)

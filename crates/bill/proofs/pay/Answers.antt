@@ -1,34 +1,37 @@
--- The first `i` places are paid.
-use mathlib.Core.Path.{◌≡◌, refl, ◌∙◌}
-use native.Mathlib.Omega.{arith}
-use lib.ListN.{length, length-set}
+use Rattle.std.proofs.Common.{◌≡◌, Bool, true, false, ℕ, ◌+◌, ◌<◌, length, arith, ◌∙◌}
+use mir.Val.{bool_byte}
+use Rattle.numbers.specs.Numbers.{pick}
 use Rattle.bill.specs.Rows.{change_start, change_end, change_old, change_turn}
 use Rattle.bill.proofs.pay.Goals as goal
 
-pub loop-i-init : goal.loop-i-init
-loop-i-init c = (omega arith, refl, change_start _ _)
+-- a cent more or none
+one_more : (b : Bool) (x : ℕ) → x + bool_byte b ≡ pick b (x + 1) x
+one_more true x = omega arith
+one_more false x = omega arith
+
+one_most : (b : Bool) (x most : ℕ) → x + 1 < most → x + bool_byte b < most
+one_most true x most l = omega arith
+one_most false x most l = omega arith
+
+pub loop-place-init : goal.loop-place-init
+loop-place-init c = change_start _ _
 
 pub overflow_add-part : goal.overflow_add-part
 overflow_add-part c =
-    let l = c.loop-i in
-    let here = change_old _ c.args.row.now l.row l.i l.invariant.2 (omega arith) in
-    let small = c.requires.1 l.i (omega arith) in
-    omega (arith, here, small)
+    let l = c.loop-place in
+    let here = change_old _ c.args.row.now l.row l.place l.invariant (omega arith) in
+    let small = c.requires.1 l.place (omega arith) in
+    record { fits = rw (c.from.ensures, here) (one_most c.reaches.result _ _ small) }
 
-pub loop-i-preserved : goal.loop-i-preserved
-loop-i-preserved c =
-    let l = c.loop-i in
-    let a = c.args in
-    let here = change_old _ a.row.now l.row l.i l.invariant.2 (omega arith) in
-    let gets = c.gets_one.ensures in (
-      omega arith,
-      length-set l.row l.i _ ∙ l.invariant.1,
-      change_turn _ a.row.now l.row l.i l.invariant.2 (omega arith) _ (c.pick32.ensures ∙ rw (gets, here)),
-    )
+pub loop-place-preserved : goal.loop-place-preserved
+loop-place-preserved c =
+    let l = c.loop-place in
+    let here = change_old _ c.args.row.now l.row l.place l.invariant (omega arith) in
+    change_turn _ c.args.row.now l.row l.place l.invariant (omega arith) _
+    (rw (c.from.ensures, here, c.reaches.ensures) (one_more _ _))
 
 pub returns : goal.returns
 returns c =
-    let l = c.loop-i in
-    let a = c.args in
-    let end : l.i ≡ length a.row.now = omega arith in
-    l.invariant.2 ∙ rw end (change_end _ a.row.now)
+    let l = c.loop-place in
+    let end : l.place ≡ length c.args.row.now = omega arith in
+    l.invariant ∙ rw end (change_end _ c.args.row.now)

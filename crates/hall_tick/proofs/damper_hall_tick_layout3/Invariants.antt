@@ -1,24 +1,22 @@
--- In the first loop the drives so far are held and what stands for them is filled in; in the second the reports before `k` that go are sent,
--- and at `k`, if it is a place of the row, one goes.
-use Rattle.std.proofs.Common.{◌≡◌, true, ◌<◌, ◌≤◌, ◌-◌}
-use Rattle.hall_tick.specs.Chosen.{held_by, due_by, picked, sent_up_to, said_up_to}
+-- In the first loop the drives so far are held and what stands for them is filled in; in the second the reports before the next that goes are
+-- sent, all of them where none is left.
+use Rattle.std.proofs.Common.{◌≡◌, true, ◌<◌, ◌-◌, length, unwrap_or, IfSome}
+use Rattle.hall_tick.specs.Chosen.{front, held_by, due_by, picked, sent_up_to, said_up_to}
 use Rattle.hall_tick.proofs.damper_hall_tick_layout3.Given as goal
 
-abbrev pub invariant-loop-i : goal.invariant-loop-i
-invariant-loop-i l =
-    (l.i ≤ l.stop)
-    × (l.row ≡ held_by l.fn.row l.fn.numbers l.quota l.stop l.i)
-    × (l.numbers ≡ due_by l.fn.row l.fn.numbers l.quota l.stop l.i)
+abbrev pub invariant-loop-place : goal.invariant-loop-place
+invariant-loop-place l = record {
+  row : l.row ≡ held_by l.fn.row (front l.fn.row l.fn.numbers) l.quota (length l.fn.row) l.place;
+  numbers : l.numbers ≡ due_by l.fn.row (front l.fn.row l.fn.numbers) l.quota (length l.fn.row) l.place;
+}
 
-abbrev pub decreases-loop-i : goal.decreases-loop-i
-decreases-loop-i l = l.stop - l.i
+abbrev pub invariant-loop-next : goal.invariant-loop-next
+invariant-loop-next l = record {
+  within : IfSome l.next (λ k. k < length l.fn.row);
+  goes : IfSome l.next (λ k. picked l.fn.row (front l.fn.row l.fn.numbers) l.quota (length l.fn.row) k ≡ true);
+  row : l.row ≡ sent_up_to l.fn.row (front l.fn.row l.fn.numbers) l.quota (length l.fn.row) (unwrap_or l.next (length l.fn.row));
+  numbers : l.numbers ≡ said_up_to l.fn.row (front l.fn.row l.fn.numbers) l.quota (length l.fn.row) (unwrap_or l.next (length l.fn.row));
+}
 
-abbrev pub invariant-loop-k : goal.invariant-loop-k
-invariant-loop-k l =
-    (l.k ≤ l.stop)
-    × (l.k < l.stop → picked l.fn.row l.fn.numbers l.quota l.stop l.k ≡ true)
-    × (l.row ≡ sent_up_to l.fn.row l.fn.numbers l.quota l.stop l.k)
-    × (l.numbers ≡ said_up_to l.fn.row l.fn.numbers l.quota l.stop l.k)
-
-abbrev pub decreases-loop-k : goal.decreases-loop-k
-decreases-loop-k l = l.stop - l.k
+abbrev pub decreases-loop-next : goal.decreases-loop-next
+decreases-loop-next l = length l.fn.row - unwrap_or l.next (length l.fn.row)

@@ -1,47 +1,52 @@
 -- At every turn the page is that of the outcomes so far, and the drive has been carried over them.
-use mathlib.Core.Path.{refl, sym, ◌∙◌}
-use mathlib.Core.List.{[], ◌∷◌, ◌++◌}
-use native.Mathlib.Omega.{arith}
-use Rattle.damper.specs.CarryLaws.{start, turn, full, ended}
+use Rattle.std.proofs.Common.{[], ◌∷◌, ◌++◌, ◌+◌, refl, sym, ◌∙◌, arith, rules}
+use Rattle.damper.specs.CarryLaws.{start, chunk, taken}
 use Rattle.invariant.specs.Kept.{formed_kept}
-use Rattle.printer.specs.Page.{count_after, lines_after, page_after}
+use Rattle.printer.specs.Page.{counted, count_after, lines_after, page_after}
 use Rattle.printer.specs.Laws.{line_more}
 use Rattle.printer.proofs.print_answers.Goals as goal
 
-pub loop-i-init : goal.loop-i-init
+pub loop-record-init : goal.loop-record-init
 unfolding count_after lines_after page_after
-loop-i-init c = ([], start, record { count = refl; used = refl; bytes = refl }, omega arith, omega arith, refl, c.well_formed-formed.ensures)
+loop-record-init c = record {
+  os = [];
+  i = 0;
+  at = 0;
+  carried = start;
+  rest = search rules;
+  size = search rules;
+  room = search rules;
+  filled = record { count = refl; used = refl; bytes = refl };
+  within = omega arith;
+  out_length = refl;
+  formed = c.well_formed-formed.ensures;
+}
 
-pub step_if-o-requires : goal.step_if-o-requires
-step_if-o-requires c = c.loop-i.invariant.6
-
-pub loop-i-preserved : goal.loop-i-preserved
-loop-i-preserved c =
-    let put = c.put_line-used in
-    let more = c.one_more-count in
+pub loop-record-preserved : goal.loop-record-preserved
+unfolding counted
+loop-record-preserved c =
+    let l = c.loop-record.invariant in
+    let steps = c.in-Some.ensures.steps in
     let step = c.step_if-o in
-    let size = c.min_size in
-    let room = c.loop-i-test.true in
-    let some = c.if-left-eq0.false in
-    let d = c.loop-i.d in
-    let l = c.loop-i.invariant in (
-      l.0 ++ (step.result ∷ []),
-      turn l.1 (omega (arith, room)) (omega (arith, some)) size.ensures step.ensures,
-      line_more step.result (omega (arith, room)) more.ensures put.ensures.end put.ensures.bytes l.2,
-      omega (arith, put.ensures.short),
-      omega (arith, room),
-      omega (arith, put.auto.out),
-      rw step.ensures (l.6 ∙ sym (formed_kept d _)),
-    )
+    let put = c.put_line-used in
+    let more = chunk l.carried (omega arith) l.rest steps.0.1.0 (rw l.size at steps.0.1.1) steps.0.1.2 step.ensures in
+    record {
+      os = l.os ++ (step.result ∷ []);
+      i = l.i + 1;
+      at = _;
+      carried = more.0;
+      rest = more.1;
+      size = steps.0.0 ∙ l.size;
+      room = omega arith;
+      filled = line_more step.result (omega arith) c.saturating_add-count.ensures put.ensures.end put.ensures.bytes l.filled;
+      within = omega (arith, put.ensures.short);
+      out_length = put.auto.out ∙ l.out_length;
+      formed = rw step.ensures (l.formed ∙ sym (formed_kept c.loop-record.d _));
+    }
 
--- no room is left
-pub returns-after-loop-i : goal.returns-after-loop-i
-returns-after-loop-i c =
-    let l = c.loop-i.invariant in
-    rw (full l.1 (omega arith)) record { drive = l.1.drive; count = l.2.count; used = l.2.used; bytes = l.2.bytes; within = omega arith }
-
--- no bytes are left
-pub returns-then-left-eq0 : goal.returns-then-left-eq0
-returns-then-left-eq0 c =
-    let l = c.loop-i.invariant in
-    rw (ended l.1 (omega arith)) record { drive = l.1.drive; count = l.2.count; used = l.2.used; bytes = l.2.bytes; within = omega arith }
+pub returns : goal.returns
+returns c =
+    let l = c.loop-record.invariant in
+    let none = c.in-None.ensures.steps in
+    rw (taken l.carried l.room l.rest (λ left. (none left).1.0))
+    record { drive = l.carried.drive; count = l.filled.count; used = l.filled.used; bytes = l.filled.bytes; within = omega arith }

@@ -1,30 +1,28 @@
-use mathlib.Core.Path.{refl}
-use native.Mathlib.Omega.{arith}
-use lib.ListN.{length-take}
-use Rattle.printer.specs.SessionLaws.{turn_answered, turn_kept, turn_count}
+use Rattle.std.proofs.Common.{◌≡◌, ◌-◌, length, take, arith}
+use Rattle.std.proofs.Math.Seq.{take-length}
+use Rattle.event.specs.Records.{records_of}
+use Rattle.printer.specs.Page.{answered}
+use Rattle.printer.specs.Session.{whole}
+use Rattle.printer.specs.SessionLaws.{turn_answered}
 use Rattle.printer.proofs.turn.Goals as goal
 
-pub slice_bounds-print_answers-end-2 : goal.slice_bounds-print_answers-end-2
-slice_bounds-print_answers-end-2 c = simp length-take (omega (arith, c.requires.have_in_bounds))
-
-pub returns : goal.returns
-returns c =
+-- the output has room for every record that is whole
+all : (c : goal.After-result-1)
+    → (let b = c.args.input.now in answered (take (length b - c.waiting-part.result) b) c.args.out.now ≡ records_of (take (whole c.args.ended (length b)) b))
+all c =
     let a = c.args in
-    let waits = c.waiting-part in
-    let p = c.print_answers-p in
-    let rest = c.keep_rest in
-    let input = a.input.now in
-    let law = turn_answered input a.out.now a.have a.ended waits.result c.requires.have_in_bounds waits.ensures.value waits.ensures.bound.0 c.requires.have_bound in
-    let kept = turn_kept input a.out.now a.have a.ended waits.result c.requires.have_in_bounds waits.ensures.value waits.ensures.bound.0 in
-    let count = turn_count input a.out.now a.have a.ended waits.result c.requires.have_in_bounds waits.ensures.value waits.ensures.bound.0 in
-    rw (← law, count, kept)
-    record {
-      drive = p.ensures.drive;
-      count = p.ensures.count;
-      kept = refl;
-      few = waits.ensures.bound.1;
-      input = rest.ensures;
-      used = p.ensures.used;
-      lines = p.ensures.bytes;
-      within = p.ensures.within;
-    }
+    let waits = c.waiting-part.ensures in
+    let b = a.input.now in
+    rw (take-length b) at (turn_answered b a.out.now (length b) a.ended _ (omega arith) waits.value waits.bound.0 c.requires.room)
+
+pub returns-clause-drive : goal.returns-clause-drive
+returns-clause-drive c = rw (← all c) c.print_answers-p.ensures.drive
+
+pub returns-clause-count : goal.returns-clause-count
+returns-clause-count c = rw (← all c) c.print_answers-p.ensures.count
+
+pub returns-clause-used : goal.returns-clause-used
+returns-clause-used c = rw (← all c) c.print_answers-p.ensures.used
+
+pub returns-clause-lines : goal.returns-clause-lines
+returns-clause-lines c = rw (← all c) c.print_answers-p.ensures.bytes

@@ -1,8 +1,7 @@
 -- At every turn the rows are those after the outcomes so far, and the drive has been carried over them.
-use mathlib.Core.Path.{◌≡◌}
-use mathlib.Core.List.{List}
-use Prim.Native.Nat.{◌-◌, min}
-use lib.ListN.{length}
+use Rattle.std.proofs.Common.{◌≡◌, ℕ, ◌+◌, List, length, drop}
+use Rattle.std.specs.Slice.Iter.{chunks_rest, chunks_size}
+use Rattle.std.specs.Iterator.Adapters.{take_source, take_count, enumerate_source, enumerate_count}
 use Rattle.answer.specs.Answer.{word_of, code_of}
 use Rattle.damper.specs.declared.Outcome.{Outcome}
 use Rattle.damper.specs.WellFormed.{well_formed}
@@ -11,15 +10,17 @@ use Rattle.damper.specs.Carry.{answers_in}
 use Rattle.damper.specs.CarryLaws.{Carried}
 use Rattle.replay.proofs.replay.Given as goal
 
-abbrev pub invariant-loop-i : goal.invariant-loop-i
-invariant-loop-i l =
-    (os : List Outcome)
-    × Carried step_of l.initial.d (min (length l.initial.words) (length l.initial.codes)) l.s os l.d l.i l.at
-    × (length l.words ≡ length l.initial.words)
-    × (length l.codes ≡ length l.initial.codes)
-    × (l.words ≡ answers_in word_of os l.initial.words)
-    × (l.codes ≡ answers_in code_of os l.initial.codes)
-    × (l.formed ≡ well_formed l.d)
-
-abbrev pub decreases-loop-i : goal.decreases-loop-i
-decreases-loop-i l = l.room - l.i
+abbrev pub invariant-loop-k : goal.invariant-loop-k
+invariant-loop-k l = record {
+  os : List Outcome;
+  at : ℕ;
+  carried : Carried step_of l.initial.d l.room l.s os l.d (enumerate_count l.k-iterator) at;
+  rest : chunks_rest (take_source (enumerate_source l.k-iterator)) ≡ drop at l.s;
+  size : chunks_size (take_source (enumerate_source l.k-iterator)) ≡ 6;
+  room : take_count (enumerate_source l.k-iterator) + enumerate_count l.k-iterator ≡ l.room;
+  words_length : length l.words ≡ length l.initial.words;
+  codes_length : length l.codes ≡ length l.initial.codes;
+  words : l.words ≡ answers_in word_of os l.initial.words;
+  codes : l.codes ≡ answers_in code_of os l.initial.codes;
+  formed : l.formed ≡ well_formed l.d;
+}

@@ -1,33 +1,27 @@
-use mathlib.Core.Path.{sym, ◌∙◌}
-use native.Mathlib.Omega.{arith}
-use Rattle.line.specs.Line.{decimal}
-use Rattle.line.specs.Laws.{decimal_length, after_that}
+use Rattle.std.proofs.Common.{arith, rules, sym, ◌∙◌}
+use Rattle.line.specs.Laws.{decimal_length}
 use Rattle.damper.specs.Laws.{wf_flags}
+use Rattle.line.specs.Writing.{wrote_both, given_back}
 use Rattle.shift.specs.Shift.{drive_line}
-use Rattle.shift.specs.Laws.{right_length}
 use Rattle.shift.proofs.put_drive.Goals as goal
 
-pub put_right-rest-requires : goal.put_right-rest-requires
-put_right-rest-requires c = record { n_len_bound = (decimal_length 2 c.args.number (omega arith) (omega arith), omega arith); columns_in_bounds = omega arith }
+pub put_right-requires-clause-digits : goal.put_right-requires-clause-digits
+put_right-requires-clause-digits c = (decimal_length 2 c.args.number (omega arith) (omega arith), omega arith)
 
 pub ruling-requires : goal.ruling-requires
-ruling-requires c = wf_flags c.args.d (sym c.well_formed-2.ensures ∙ c.if-well_formed.true)
+ruling-requires c = wf_flags c.args.d (sym c.well_formed-2.ensures ∙ c.if-not-well_formed.false)
 
-pub put_fields-requires : goal.put_fields-requires
-put_fields-requires c = record { rank_bound = c.ruling.ensures.bound; at_in_bounds = omega (arith, right_length 2 (decimal c.args.number)) }
-
-pub put_bytes-requires : goal.put_bytes-requires
-put_bytes-requires c = omega (arith, right_length 2 (decimal c.args.number))
-
-pub returns-then-well_formed : goal.returns-then-well_formed
+pub returns-then-not-well_formed : goal.returns-then-not-well_formed
 unfolding drive_line
-returns-then-well_formed c =
-    let fields = rw (c.ruling.ensures.value, c.status.ensures) at c.put_fields.ensures in
-    rw (sym c.well_formed-2.ensures ∙ c.if-well_formed.true)
-    (after_that c.put_right-rest.ensures fields (omega (arith, right_length 2 (decimal c.args.number))))
+returns-then-not-well_formed c =
+    let line = wrote_both c.put_right.ensures c.put_bytes.ensures in
+    rw (sym c.well_formed-2.ensures ∙ c.if-not-well_formed.true)
+    record { place = line.written.place; buffer = given_back line (search rules) }
 
-pub returns-else-well_formed : goal.returns-else-well_formed
+pub returns : goal.returns
 unfolding drive_line
-returns-else-well_formed c =
-    rw (sym c.well_formed-2.ensures ∙ c.if-well_formed.false)
-    (after_that c.put_right-rest.ensures c.put_bytes.ensures (omega (arith, right_length 2 (decimal c.args.number))))
+returns c =
+    let fields = rw (c.ruling.ensures, c.status.ensures) at c.put_fields.ensures in
+    let line = wrote_both c.put_right.ensures fields in
+    rw (sym c.well_formed-2.ensures ∙ c.if-not-well_formed.false)
+    record { place = line.written.place; buffer = given_back line (search rules) }

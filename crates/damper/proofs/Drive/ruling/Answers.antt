@@ -1,5 +1,6 @@
 use Rattle.rules.specs.RankLaws.{rank_below}
 use Rattle.damper.proofs.Drive.ruling.Goals as goal
 
-pub returns : goal.returns
-returns c = record { value = simp (c.ruling_rank.ensures, c.active.ensures.value, c.bus_on.ensures); bound = rw c.ruling_rank.ensures (rank_below _ c.active.ensures.bound.0 c.active.ensures.bound.1) }
+pub invariant_of-result : goal.invariant_of-result
+invariant_of-result c =
+    let active = c.active.ensures.bound in record { bound = rw c.ruling_rank-number.ensures (rank_below _ active.0 active.1) }

@@ -1,5 +1,0 @@
-use Rattle.flow.specs.Literals.{is_0}
-use Rattle.flow.proofs.FlowRecord.fresh.Goals as goal
-
-pub returns : goal.returns
-returns c = simp is_0

@@ -1,4 +1,0 @@
-use Rattle.flow.proofs.FlowRecord.ticked.Goals as goal
-
-pub returns : goal.returns
-returns c = simp c.next16.ensures
