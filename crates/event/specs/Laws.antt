@@ -3,7 +3,7 @@ use Rattle.std.specs.Prelude.{◌≡◌, refl, true, false, not, List, ℕ, zero
 use Rattle.std.specs.Result.{result_ok}
 use Rattle.std.proofs.Common.{inl, inr, sym, subst, ◌∙◌, arith, lt-ltb, ltb-false, le-leb, leb-true, eqb-true, take_at}
 use Rattle.std.proofs.Math.Bool.{or-true}
-use Rattle.std.proofs.lemmas.Bool.{false≢true, eqb-false}
+use Rattle.std.proofs.lemmas.Bool.{false≢true}
 use Rattle.numbers.specs.Laws.{passed, not_false, and_left, and_right}
 use Rattle.table.specs.Table.{known}
 use Rattle.event.specs.declared.Event.{Event}

@@ -1,6 +1,6 @@
 // Document 01's eleven kinds of event.
 ghost use Rattle.std.specs.Prelude.{◌≡◌};
-ghost use Rattle.event.specs.Kinds.{IsKind};
+ghost use Rattle.event.specs.Kinds.{IsKind, number};
 
 use answer::Refusal;
 
@@ -40,5 +40,13 @@ impl TryFrom<u8> for Kind {
             11 => Ok(Kind::ReadParameter),
             _ => Err(Refusal::Kind),
         }
+    }
+}
+
+impl Kind {
+    pub fn number(self) -> u8
+        ensures { result ≡ number self }
+    {
+        self as u8
     }
 }

@@ -48,15 +48,16 @@ impl Event {
 
 // The first of the refusals 4 to 8 that fits.
 #[tactic(auto, unfolding(crate::specs::Event::data_refusal, crate::specs::Event::form_of))]
-fn data_refusal(e: Event) -> Result<(), Refusal>
-    ensures { refused_by result ≡ data_refusal e }
+fn data_refusal(e: &Event) -> Result<(), Refusal>
+    ensures { refused_by result ≡ data_refusal e.now }
 {
     let a = e.a;
     let b = e.b;
     let c = e.c;
     let bc = (b != 0) | (c != 0);
     let abc = (a != 0) | bc;
-    match Kind::try_from(e.kind)? {
+    let kind = Kind::try_from(e.kind)?;
+    match kind {
         Kind::Tick | Kind::Restart | Kind::ReadPosition => refuse(abc, Refusal::Unused),
         Kind::Setpoint => refuse(bc, Refusal::Unused),
         Kind::LteSetpoint => {
@@ -76,9 +77,9 @@ fn data_refusal(e: Event) -> Result<(), Refusal>
             refuse(bc, Refusal::Unused)?;
             refuse(1 < a, Refusal::Value)
         }
-        Kind::Write => refuse(!table::known(a), Refusal::Value),
-        Kind::ReadParameter => {
-            refuse(bc, Refusal::Unused)?;
+        // One arm: of two calls of the search none is inlined, and each kind of event took longer to judge.
+        Kind::Write | Kind::ReadParameter => {
+            refuse((kind != Kind::Write) & bc, Refusal::Unused)?;
             refuse(!table::known(a), Refusal::Value)
         }
     }
@@ -93,7 +94,7 @@ pub fn read(s: &[u8]) -> Result<Event, Refusal>
     refuse(s.len() != LENGTH, Refusal::Length)?;
     refuse((s[0] != 0x5A) | (s[1] != 0xC3), Refusal::Mark)?;
     let e = event_in(s);
-    data_refusal(e)?;
+    data_refusal(&e)?;
     Ok(e)
 }
 
@@ -128,7 +129,7 @@ pub fn write(buf: &mut [u8], e: Event) -> Result<(), Refusal>
     ensures bytes { buf.new ≡ written_to buf.old e }
 {
     refuse(buf.len() < LENGTH, Refusal::Length)?;
-    data_refusal(e)?;
+    data_refusal(&e)?;
     buf[0] = 0x5A;
     buf[1] = 0xC3;
     buf[2] = e.kind;

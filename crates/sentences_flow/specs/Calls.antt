@@ -1,5 +1,5 @@
 -- Proofs: the flow record, one call, and what a host hands over and is handed.
-use Rattle.std.specs.Prelude.{◌≡◌, refl, ◌↔◌, Bool, true, false, not, ℕ, ◌≤◌, leb, pos, Float, Some, Ok, Err}
+use Rattle.std.specs.Prelude.{◌≡◌, refl, ◌↔◌, Bool, true, false, not, ℕ, ◌≤◌, leb, pos, Float, Option, Some, Result, Ok, Err}
 use Rattle.std.proofs.Common.{sym, ap, ◌∙◌, subst, add-one, arith, leb-true, leb-false, le-leb, ne_eqb}
 use Rattle.std.proofs.lemmas.Bool.{false≢true, eqb-false}
 use Rattle.std.proofs.Math.Bool.{or-true}
@@ -10,6 +10,7 @@ use Rattle.numbers.specs.Laws.{cases, and_left, and_right, and_intro}
 use Rattle.numbers.specs.Says.{Says, unset}
 use Rattle.flow.specs.declared.Reading.{Reading}
 use Rattle.flow.specs.declared.Reading.TheVariants.{Flow, Share, Broken}
+use Rattle.flow.specs.declared.FlowRefusal.{FlowRefusal}
 use Rattle.flow.specs.declared.FlowRefusal.TheVariants as By
 use Rattle.flow.specs.declared.FlowRecord.{FlowRecord}
 use Rattle.flow.specs.Answer.{FlowAnswer, No, Silent, Report, FlowOutcome}
@@ -17,7 +18,7 @@ use Rattle.flow.specs.Flow.{whole, is_setting, is_flow, is_share, measured, perc
 use Rattle.flow.specs.Flow.{ticked, due_by, due_at, told, hear_of, outcome, heard_with, heard}
 use Rattle.flow.specs.FloatLaws.{zero_is}
 use Rattle.flow.specs.Laws.{settings, parts, nominal_set, measured_flow, hear_kept}
-use Rattle.flow.specs.Laws.{reading_refused, record_refused}
+use Rattle.flow.specs.Laws.{reading_refused, record_refused, refused_by_23}
 use Rattle.flow.specs.declared.FlowHeard.{FlowHeard}
 use Rattle.host_flow.specs.Host.{reading_of}
 use Rattle.sentences_flow.specs.Paper as S
@@ -100,6 +101,17 @@ same_23 n got = (refuses got, refused)
     refused : {got : Reading} → S.By23 got → measured n got ≡ Err By.Reading
     refused (S.flow_out x h) = rw ((unset (is_flow x) (same_flow x)).1 h)
     refused (S.share_out x h) = rw ((unset (is_share x) (same_share x)).1 h)
+
+-- and nothing else refuses a reading
+pub same_refused : (n : Float) (got : Reading) (refusal : FlowRefusal)
+    → (measured n got ≡ Err refusal) ↔ (S.By23 got × (refusal ≡ By.Reading))
+same_refused n got refusal = (there, λ p. (same_23 n got).1 p.0 ∙ ap err (sym p.1))
+  where
+    err : FlowRefusal → Result (Option Float) FlowRefusal
+    err r = Err r
+
+    there : measured n got ≡ Err refusal → S.By23 got × (refusal ≡ By.Reading)
+    there e = let r = refused_by_23 n got refusal e in ((same_23 n got).0 (e ∙ ap err r), r)
 
 pub refused_23 : (r : FlowRecord) (got : Reading) → (S.By22 r → ⊥) → S.By23 got → hear_of r got ≡ outcome r (No 23)
 refused_23 r got n b = reading_refused r got (formed r n) ((same_23 r.nominal got).1 b)

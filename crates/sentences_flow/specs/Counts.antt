@@ -15,7 +15,7 @@ use Rattle.flow.specs.declared.FlowRefusal.{FlowRefusal}
 use Rattle.flow.specs.declared.FlowRefusal.TheVariants as By
 use Rattle.flow.specs.Answer.{FlowAnswer, No, Silent, Report, is_report}
 use Rattle.flow.specs.Flow.{measured, well_formed}
-use Rattle.flow.specs.Laws.{settings, fresh_formed, refused_by_23}
+use Rattle.flow.specs.Laws.{settings, fresh_formed}
 use Rattle.flow_history.specs.Claim as C
 use Rattle.flow_history.specs.Claim.{Settings, Moment, Trace, Sent, silent, sent}
 use Rattle.flow_history.specs.Theorem.{flow_fits, silent_in}
@@ -64,7 +64,7 @@ module _ (s : Settings) where
   same_taken m =
       let e = taken_says (measured s.nominal m.reading) in
       let w = Calls.same_23 s.nominal m.reading in
-      (λ q b. e.0 q By.Reading (w.1 b), λ n. e.1 (λ refusal q. n (w.0 (q ∙ ap (λ (r : FlowRefusal). Err r) (refused_by_23 _ _ refusal q)))))
+      (λ q b. e.0 q By.Reading (w.1 b), λ n. e.1 (λ refusal q. n ((Calls.same_refused s.nominal m.reading refusal).0 q).0))
 
   pub same_accepted : (m : Moment) (t : Trace) → (C.accepted s m t ≡ true) ↔ S.Accepted s m
   same_accepted m t =
@@ -79,7 +79,7 @@ module _ (s : Settings) where
   pub refused_reading : (m : Moment) (t : Trace) → C.fit s ≡ true → C.accepted s m t ≡ false → S.By23 m.reading
   refused_reading m t q a =
       let z = not_taken (measured s.nominal m.reading) (rw q at a) in
-      (Calls.same_23 s.nominal m.reading).0 (z.1 ∙ ap (λ (r : FlowRefusal). Err r) (refused_by_23 _ _ z.0 z.1))
+      ((Calls.same_refused s.nominal m.reading z.0).0 z.1).0
 
   pub same_gives : (m : Moment) (x : Float) → (C.flow_in s m ≡ Ok (Some x)) ↔ S.Gives s m x
   same_gives m x = (there, back)

@@ -10,6 +10,7 @@ use Rattle.std.specs.Prelude.{◌≡◌, ◌↔◌, true, false, List, ◌++◌,
 use Rattle.std.specs.Float.{binary32}
 use Rattle.std.specs.Float.Ieee.{mul, le}
 use Rattle.flow.specs.declared.Reading.{Reading}
+use Rattle.flow.specs.declared.FlowRefusal.{FlowRefusal}
 use Rattle.flow.specs.declared.FlowRefusal.TheVariants as By
 use Rattle.flow.specs.declared.FlowRecord.{FlowRecord}
 use Rattle.flow.specs.declared.FlowHeard.{FlowHeard}
@@ -68,9 +69,11 @@ refused_22 r got b = Calls.refused_22 r got b
 pub refused_23 : (r : FlowRecord) (got : Reading) → (S.By22 r → ⊥) → S.By23 got → hear_of r got ≡ outcome r (No 23)
 refused_23 r got n b = Calls.refused_23 r got n b
 
--- which readings these are, and the flow of any other: "A share becomes a flow by one rounded product with nominal."
-pub not_measured : (n : Float) (got : Reading) → (measured n got ≡ Err By.Reading) ↔ S.By23 got
-not_measured n got = Calls.same_23 n got
+-- which readings these are, and that nothing else refuses one; and the flow of any other: "A share becomes a flow by one rounded product
+-- with nominal."
+pub not_measured : (n : Float) (got : Reading) (refusal : FlowRefusal)
+    → (measured n got ≡ Err refusal) ↔ (S.By23 got × (refusal ≡ By.Reading))
+not_measured n got refusal = Calls.same_refused n got refusal
 
 pub measured_as : (n : Float) (got : Reading) (x : Float) → S.Between 1 1000000 n
     → (measured n got ≡ Ok (Some x)) ↔ ((S.By23 got → ⊥) × S.FlowOf n got x)
